@@ -9,6 +9,7 @@ from dataclasses import dataclass, field
 from typing import List, NamedTuple, Optional
 
 from .faults import Refused
+from .printable import printable
 
 NAME = re.compile(r"[A-Za-z0-9_.:/-]{1,64}\Z")
 MOST_CLASSES, MOST_FILTERS, MOST_INTERFACES, MOST_LEVELS = 256, 1024, 16, 8
@@ -87,31 +88,59 @@ class Interface:
     filters: List[Filter] = field(default_factory=list)
 
 
+class Note(NamedTuple):
+    """What of a file has no equivalent or means something else here: its line, or 0 for the file as a whole, the word, why, and
+    whether that has an effect: packets would have another class, another queue or another turn."""
+
+    line: int
+    text: str
+    why: str
+    has_effect: bool
+    place: int = 0
+
+    def told(self):
+        """The note in a line."""
+        where = f"line {self.line} word {self.place}: " if self.line else ""
+        return printable(f"{where}{self.text}: {self.why}" if self.text else f"{where}{self.why}")
+
+
 class Notes:
     """Where a file is imported from, and what has no equivalent or means something else here."""
 
     def __init__(self, name):
         self.name, self.placed, self.general = name, [], []
 
-    def add(self, word, text):
+    def add(self, word, text, has_effect=True):
         """Notes something at a word, once."""
-        note = (word.line, word.place, f"{word.text}: {text}")
+        note = Note(word.line, word.text, text, has_effect, word.place)
         if note not in self.placed:
             self.placed.append(note)
 
-    def say(self, text):
+    def say(self, text, has_effect=False):
         """Notes something of the file as a whole, once."""
-        if text not in self.general:
-            self.general.append(text)
+        note = Note(0, "", text, has_effect)
+        if note not in self.general:
+            self.general.append(note)
 
     def refuse(self, word, text):
         """Ends the import at a word."""
         raise Refused(f"{self.name}: line {word.line} word {word.place}: {word.text}: {text}")
 
-    def lines(self):
+    def all(self):
         """The notes, those with a place in the order of the file."""
-        placed = [f"line {line} word {place}: {text}" for line, place, text in sorted(self.placed)]
-        return placed + self.general
+        return sorted(self.placed, key=lambda note: (note.line, note.place, note.text, note.why)) + self.general
+
+    def lines(self):
+        """The notes in lines."""
+        return [note.told() for note in self.all()]
+
+    def effects(self):
+        """A line that counts what has an effect and is not in the result, or None."""
+        found = [note for note in self.all() if note.has_effect]
+        lines = sorted({note.line for note in found if note.line})
+        where = f" (line{'s' * (len(lines) > 1)} {', '.join(map(str, lines))})" if lines else ""
+        words, have = ("word", "has") if len(found) == 1 else ("words", "have")
+        return f"{len(found)} {words} of {printable(self.name)}{where} {have} an effect that the result does not have" if found else None
 
 
 def rate_text(rate):
@@ -161,7 +190,7 @@ def filter_text(interface, one):
 
 def text_of(interfaces, notes):
     """The altq.conf: a comment for each note, then the interfaces."""
-    lines = [f"# From {notes.name} by altqwork import; docs/operators/PF-TC.md says what became of each word."]
+    lines = [f"# From {printable(notes.name)} by altqwork import; docs/operators/PF-TC.md says what became of each word."]
     lines += [f"# {line}" for line in notes.lines()]
     for interface in interfaces:
         tbrsize = f" tbrsize {interface.tbrsize}" if interface.tbrsize else ""

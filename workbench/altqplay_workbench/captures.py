@@ -1,17 +1,17 @@
-"""Reads captures that libpcap writes, classic or pcapng, also by gzip, and writes classic ones of Ethernet.
+"""Reads captures that libpcap writes, classic or pcapng, also packed (`packed`), and writes classic ones of Ethernet.
 
 `records` gives the records of any of them, one by one; `Frames` holds a whole classic capture of Ethernet, as the
-program reads it, in columns. Sources: pcap-savefile(5), draft-ietf-opsawg-pcapng. A capture that is cut, or whose
-lengths disagree, is refused with the number of the record: nothing is made up.
+program reads it, in columns. Sources: pcap-savefile(5), draft-ietf-opsawg-pcapng. Of a capture that ends within a record,
+as tcpdump leaves it that is stopped, the whole records are taken, and that is told. One whose lengths disagree is refused
+with the number of the record: nothing is made up.
 """
 
-import gzip
 import os
 import struct
-import zlib
 from collections import namedtuple
 
 from .faults import Refused
+from .packed import opened
 
 ETHERNET = 1
 LONGEST = 262_144
@@ -28,32 +28,22 @@ Record = namedtuple("Record", "at data length link")
 Source = namedtuple("Source", "link ticks offset")
 
 
-def opened(name):
-    """A capture's file, through gzip where it is so packed."""
-    file = open(name, "rb")
-    is_packed = file.read(2) == b"\x1f\x8b"
-    file.seek(0)
-    return gzip.GzipFile(fileobj=file) if is_packed else file
+class Cut(Exception):
+    """A capture ends within what is being read."""
 
 
 class Bytes:
-    """The bytes of a capture in order; what is cut is refused."""
+    """The bytes of a capture in order."""
 
     def __init__(self, name):
         self.name, self.file, self.count = name, opened(name), 0
-
-    def read(self, size):
-        """The next bytes, fewer at the end of the file."""
-        try:
-            return self.file.read(size)
-        except (EOFError, gzip.BadGzipFile, zlib.error) as fault:
-            raise Refused(f"{self.name}: {fault}") from None
+        self.read = self.file.read
 
     def take(self, size, at_end=False):
         """The next bytes; b"" at the end of the file where it may end here."""
         data = self.read(size)
         if len(data) < size and not (at_end and not data):
-            raise self.fault("is cut: the file ends within it")
+            raise Cut
         return data
 
     def fault(self, text):
@@ -61,8 +51,16 @@ class Bytes:
         return Refused(f"{self.name}: record {self.count + 1} {text}")
 
 
-def records(name):
-    """The records of a capture in order. `Refused` where it is none, is cut, or a record has no stamp or a faulty length."""
+def cut_text(name, count):
+    """What is told of a capture that ends within a record."""
+    return f"{name}: it ends within record {count + 1}: the {count} whole records before it are taken"
+
+
+def records(name, told=None):
+    """The records of a capture in order. `Refused` where it is none, or a record has no stamp or a faulty length.
+
+    Where the file ends within a record, `told`, a list, gets a line that says so; without one that is `Refused`.
+    """
     source = Bytes(name)
     with source.file:
         magic = source.read(4)
@@ -72,11 +70,19 @@ def records(name):
             found = section_records(source)
         else:
             raise Refused(f"{name}: neither a classic capture nor pcapng, it begins with {magic.hex() or 'nothing'}")
-        for record in found:
-            if max(record.length, len(record.data)) > LONGEST or record.at < 0:
-                raise source.fault(f"has a length above {LONGEST} or a stamp before 1970")
-            yield record
-            source.count += 1
+        try:
+            for record in found:
+                if max(record.length, len(record.data)) > LONGEST or record.at < 0:
+                    raise source.fault(f"has a length above {LONGEST} or a stamp before 1970")
+                yield record
+                source.count += 1
+            is_cut = source.file.is_cut
+        except Cut:
+            is_cut = True
+        if is_cut and (told is None or not source.count):
+            raise source.fault("is cut: the file ends within it")
+        if is_cut:
+            told.append(cut_text(name, source.count))
 
 
 def classic_records(source, order, unit):
@@ -187,11 +193,14 @@ def write_ethernet(name, packets):
 
 
 class Frames:
-    """A classic capture of Ethernet that the program plays, whole: `data`, the place of each record in it, and its numbers."""
+    """A classic capture of Ethernet that the program plays: `data`, the place of each whole record in it, and its numbers.
+
+    `is_cut` says whether the file ends within a record.
+    """
 
     def __init__(self, name):
         with opened(name) as file:
-            self.data = file.read()
+            self.data, self.is_cut = file.read(), file.is_cut
         order, _unit = CLASSIC.get(self.data[:4], (None, 0))
         if order is None or len(self.data) < 24 or struct.unpack_from(order + "I", self.data, 20)[0] & 0xFFFF != ETHERNET:
             raise Refused(f"{name}: not a classic capture of Ethernet; altqwork convert makes one")
@@ -204,8 +213,11 @@ class Frames:
         add_place, add_captured = self.places.append, self.captured.append
         while at < end:
             captured = word(data, at + 8)[0] if at + 16 <= end else LONGEST
+            if captured > LONGEST:
+                raise Refused(f"{self.name}: record {len(self.places) + 1} has {captured} bytes captured, more than {LONGEST}")
             if at + 16 + captured > end:
-                raise Refused(f"{self.name}: record {len(self.places) + 1} is cut")
+                self.is_cut = True
+                return
             add_place(at)
             add_captured(captured)
             at += 16 + captured

@@ -5,6 +5,7 @@ are the subcommand's own answers, 2 says that the words or an input were refused
 """
 
 import argparse
+import contextlib
 import importlib
 import os
 import sys
@@ -12,6 +13,7 @@ import sys
 from . import __version__
 from .faults import Missing, Refused
 from .libraries import advice
+from .printable import Printed
 
 # Each subcommand's module. One whose module is not here is no subcommand.
 MODULES = {
@@ -68,8 +70,14 @@ def parser_of(words):
 
 
 def main(words=None):
-    """Runs the words of a command line, those of this process where none are given, and answers the exit status."""
+    """Runs the words of a command line, those of this process where none are given, and answers the exit status. All that is said is printable text."""
     words = sys.argv[1:] if words is None else words
+    with contextlib.redirect_stdout(Printed(sys.stdout)), contextlib.redirect_stderr(Printed(sys.stderr)):
+        return answered(words)
+
+
+def answered(words):
+    """Runs the words of a command line and answers the exit status."""
     try:
         args = parser_of(words).parse_args(words)
         status = args.run(args)

@@ -3,6 +3,7 @@
 import re
 from collections import namedtuple
 
+from .config_kinds import NAMES, kind_of
 from .faults import Refused
 from .play import check
 from .rules.meters import rule_of
@@ -52,7 +53,10 @@ def interface_named(config, interface):
     if interface is not None:
         return interface
     with open(config, encoding="ascii", errors="replace") as file:
-        names = list(dict.fromkeys(re.findall(r"^[ \t\r\[\]]*interface[ \t\r\[\]]+(\S+)", file.read(), re.MULTILINE)))
+        text = file.read()
+    names = list(dict.fromkeys(re.findall(r"^[ \t\r\[\]]*interface[ \t\r\[\]]+(\S+)", text, re.MULTILINE)))
+    if not names and kind_of(text) is not None:
+        raise Refused(f"{config}: it is {NAMES[kind_of(text)]}, not an altq.conf: altqwork import makes one of it")
     if len(names) != 1:
         raise Refused(f"{config}: {len(names)} interfaces ({', '.join(names)}): name one with --interface")
     return names[0]

@@ -3,7 +3,8 @@
 FILE is a pf.conf(5) with altq and queue lines, or pfSense's /tmp/rules.debug; or a script of tc(8) commands, or what
 `tc qdisc show`, `tc -d class show` and `tc filter show` print, one behind the other. Of tc hfsc is read, with u32, flower
 and matchall. What has no equivalent, or means something else here, is a comment at the head of the altq.conf with its line
-and word; docs/operators/PF-TC.md has the table. The exit status is 0 where it was written, 2 where FILE is refused.
+and word; docs/operators/PF-TC.md has the table. What has an effect that the altq.conf does not have is counted in the last line. The exit
+status is 0 where nothing has, 3 where something has, 2 where FILE is refused and nothing is written.
 """
 
 import re
@@ -11,16 +12,17 @@ import sys
 import tempfile
 from fractions import Fraction
 
-from . import pf_queues, pf_rules, play, tc_classes, tc_filters
+from . import pf_filters, pf_queues, pf_rules, play, tc_classes, tc_filters
 from .altq_text import Notes, try_all, text_of
+from .config_kinds import NAMES, kind_of
 from .faults import Missing, Refused
 from .pf_words import statements
+from .printable import printable
 from .tc_words import commands
 
 NAME = "import"
 HELP = "make an altq.conf of the queues of pf.conf or tc"
-TC_LINE = re.compile(r"[^#]*\b(qdisc|class|filter)\s+(add|del|delete|replace|change|hfsc|parent)\b|\s*qdisc\s")
-PF_LINE = re.compile(r"\s*(altq|queue|set|pass|match|block|scrub)\s")
+HAS_EFFECT = 3
 
 
 def add_arguments(parser):
@@ -43,22 +45,24 @@ def rate(text):
     return int(Fraction(match[1]) * 1000 ** (1 + "kmgt".find(match[2][:1].lower() or "-")))
 
 
-def kind_of(text, name):
-    """Whether a text is pf's or tc's, by the first line that tells."""
-    for line in text.split("\n"):
-        if TC_LINE.match(line):
-            return "tc"
-        if PF_LINE.match(line):
-            return "pf"
-    raise Refused(f"{name}: it has no line of pf.conf or tc that tells what it is: say it by --as pf or --as tc")
+def kind(text, name):
+    """Whether a text is pf's or tc's."""
+    found = kind_of(text)
+    if found is None:
+        raise Refused(f"{name}: it has no line of pf.conf or tc that tells what it is: say it by --as pf or --as tc")
+    if found not in ("pf", "tc"):
+        raise Refused(f"{name}: it is {NAMES[found]}, of which nothing is imported")
+    return found
 
 
 def imported(text, given, notes):
     """The interfaces of a text."""
-    if (given.kind or kind_of(text, notes.name)) == "pf":
+    if (given.kind or kind(text, notes.name)) == "pf":
         lines = list(statements(text, notes))
         interfaces = pf_queues.interfaces_of(lines, given, notes)
-        pf_rules.add_filters(lines, interfaces, notes)
+        rules = pf_rules.rules_of(lines, pf_rules.tables_of(lines), notes)
+        pf_rules.settle_groups(rules, interfaces, notes)
+        pf_filters.add_filters(lines, rules, interfaces, notes)
         return interfaces
     devices = tc_classes.devices_of(commands(text, notes), given, notes)
     if not devices:
@@ -93,21 +97,28 @@ def check(conf, interfaces, named):
             play.check(file.name, one.name, named)
 
 
+def read(name):
+    """The text of a file; - is standard input."""
+    if name == "-":
+        return sys.stdin.read()
+    with open(name, encoding="utf-8", errors="replace") as file:
+        return file.read()
+
+
 def run(args):
-    if args.file == "-":
-        text = sys.stdin.read()
-    else:
-        with open(args.file, encoding="utf-8", errors="replace") as file:
-            text = file.read()
-    conf, interfaces, notes = conf_of(text, args)
+    conf, interfaces, notes = conf_of(read(args.file), args)
     check(conf, interfaces, args.program)
     if args.to is None:
         sys.stdout.write(conf)
+    else:
+        with open(args.to, "w", encoding="utf-8") as file:
+            file.write(conf)
+        names = ", ".join(one.name for one in interfaces)
+        classes, filters = (sum(len(part) for part in parts) for parts in zip(*((one.classes, one.filters) for one in interfaces)))
+        print("\n".join(notes.lines() + [f"{printable(args.to)}: {names}, {classes} classes, {filters} filters"]))
+    told = notes.effects()
+    if told is None:
         return 0
-    with open(args.to, "w", encoding="utf-8") as file:
-        file.write(conf)
-    for line in notes.lines():
-        print(line)
-    names = ", ".join(one.name for one in interfaces)
-    print(f"{args.to}: {names}, {sum(len(one.classes) for one in interfaces)} classes, {sum(len(one.filters) for one in interfaces)} filters")
-    return 0
+    sys.stdout.flush()
+    print(f"altqwork: {told}", file=sys.stderr)
+    return HAS_EFFECT

@@ -109,7 +109,7 @@ def changed(first, second, own):
     was_late, is_late, was_sent, is_sent = first.is_late[own], second.is_late[own], first.is_sent[own], second.is_sent[own]
     lost, told = len(without_due(first, second, own)), []
     if lost:
-        told.append(f"{lost} {'packet has' if lost == 1 else 'packets have'} no due moment any more")
+        told.append(f"{lost:,} {'packet has' if lost == 1 else 'packets have'} no due moment any more")
     if was_late.any() or second.has_due[own].any():
         mended = int((was_late & ~is_late & second.has_due[own]).sum())
         told.append(f"became late: {listed(first.number[own[is_late & ~was_late]])}, late no more: {mended}")
@@ -174,8 +174,8 @@ def heading(side, times):
 
 def is_well(sides, verdicts):
     """Whether the last play has no late packet, no packet lost its due moment by the change, and each want is kept."""
-    every = numpy.arange(len(sides[0]))
-    return not (sides[-1].is_late.any() or (len(sides) == 2 and len(without_due(*sides, every)))) and wants.all_kept(verdicts)
+    has_lost = len(sides) == 2 and len(without_due(*sides, plays.every(sides[0])))
+    return not (sides[-1].is_late.any() or has_lost) and wants.all_kept(verdicts)
 
 
 def run(args):

@@ -10,6 +10,8 @@ from .captures import Record
 from .faults import Refused
 
 IPV4, IPV6, MPLS, PPP = 0x0800, 0x86DD, 0x8847, 0x880B
+PPPOE, TAGS = b"\x88\x64", (b"\x81\x00", b"\x88\xa8")
+PPPOE_HEAD = 8  # RFC 2516 with the protocol of PPP behind it
 ETHERNET_HEAD = 14
 LEAST_TYPE, LONGEST_802_3 = 0x0600, 1500
 LOCAL = bytes.fromhex("020000000001")
@@ -106,6 +108,17 @@ LINKS = {
     50: ("PPP", from_ppp), 101: ("raw IP", from_ip), 108: ("OpenBSD loopback", from_openbsd_loopback),
     113: ("Linux cooked", from_cooked), 228: ("raw IPv4", from_ipv4), 229: ("raw IPv6", from_ipv6), 276: ("Linux cooked v2", from_cooked_2),
 }
+
+
+def without_pppoe(data):
+    """A frame of Ethernet as one of the IP packet that a session of PPPoE carries in it, or None where it carries none."""
+    at = 12
+    while data[at:at + 2] in TAGS and at < 20:
+        at += 4
+    kind = PPP_TYPES.get(int.from_bytes(data[at + 8:at + 10], "big"))
+    if data[at:at + 2] != PPPOE or data[at + 2:at + 4] != b"\x11\0" or kind not in (IPV4, IPV6):
+        return None
+    return data[:at] + struct.pack(">H", kind) + data[at + 2 + PPPOE_HEAD:]
 
 
 def name_of(link):

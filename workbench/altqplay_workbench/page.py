@@ -1,189 +1,195 @@
-"""The page of a report: tables whose numbers are exact, and pictures over time."""
+"""The page of a report: a line a class for those who decide, a picture a class over time, and folded below them every number.
+
+It is HTML with nothing to load, whose pictures are SVG, so it is small, and fits a phone, a dark screen and paper.
+"""
+
+from __future__ import annotations
 
 import html as markup
-import json
-import math
 import os
+from typing import Any, Iterable, Optional, Sequence
 
-import numpy
-
-from . import late, series
+from . import late, over_time, plays, series, summary, wants
 from .rows import DROPPED
+from .texts import Times
 
-# Tellable apart by the colour-blind (Okabe and Ito), with dashes and shapes for those who print in black and white.
-COLOURS = ["#0072b2", "#d55e00", "#009e73", "#cc79a7", "#000000", "#56b4e9", "#e69f00"]
-DASHES = ["solid", "dash", "dot", "dashdot"]
-SHAPES = ["circle", "square", "triangle-up", "x", "diamond", "cross"]
-STYLE = """body { font: 14px sans-serif; margin: 1.5em; color: #222; max-width: 1200px }
-table { border-collapse: collapse; margin: 0.6em 0 1.2em } td, th { padding: 2px 9px; text-align: right; white-space: nowrap }
-th { border-bottom: 1px solid #888; font-weight: normal; color: #555 } .word { text-align: left } tr.first td { border-top: 1px solid #ddd }
-tr.after { font-weight: bold } tr.changed td { text-align: left; color: #555; padding-bottom: 5px } p { margin: 0.3em 0 }"""
-# The parts of the picture, from above: title, lower and upper end, scale.
-PANELS = (("packets that wait", 0.76, 1.0, "linear"), ("drops in a step", 0.62, 0.72, "linear"),
-          ("greatest delay, ms", 0.28, 0.58, "log"), (f"Mbit/s, {series.WIDE} steps", 0.0, 0.24, "linear"))
-RANKS = (("median", 50), ("99 in 100", 99))
-PICTURE, MOST_DRAWN = 900, 20  # the height of the picture in pixels, the most classes in it
-WORD = ' class="word"'
-CLASS_HEAD = ["packets", "sent", *DROPPED, "least", *(name for name, _parts in RANKS), "greatest", "due", "missed", "late", "worst"]
-FLOW_HEAD = ["packets", "dropped", "due", "missed", "late", "worst"]
+STYLE = os.path.join(os.path.dirname(os.path.abspath(__file__)), "page.css")
+MOST_DRAWN, MANY = 20, 5  # the most classes that are drawn, and from how many on their pictures are lower
+CLASS_HEAD = ["packets", "sent", *DROPPED, "least", *late.DELAYS]
+FLOW_HEAD = ["packets", "dropped", *late.DELAYS]
+# Opens what is folded while the page is printed.
+SCRIPT = """const folded = []; addEventListener('beforeprint', () => { for (const one of document.querySelectorAll('details:not([open])')) {
+one.open = true; folded.push(one) } }); addEventListener('afterprint', () => { while (folded.length) folded.pop().open = false })"""
 
 
-def ranks(values):
-    """The least of some delays, those that so many of a hundred do not pass, and the greatest; None each where there is no delay."""
-    if not len(values):
-        return [None] * (len(RANKS) + 2)
-    ranked = numpy.sort(values)
-    return [int(ranked[place]) for place in [0, *(-(-parts * len(ranked) // 100) - 1 for _name, parts in RANKS), -1]]
+def said(text: str) -> str:
+    """A text as HTML, where what cannot be printed is a question mark."""
+    return markup.escape("".join(letter if letter.isprintable() else "?" for letter in text), quote=True)
 
 
-def class_numbers(side, own):
-    """A play's numbers of the packets at some places, as CLASS_HEAD names them."""
-    packets, _dropped, *lateness = late.counts(side, own)
-    sent = own[side.is_sent[own]]
-    return [packets, len(sent), *(side.count(own, fate) for fate in DROPPED),
-            *ranks((side.end - side.arrival)[sent]), *lateness]
+def verdict_html(row: Sequence[wants.Verdict], labels: Sequence[str], times: Times) -> str:
+    """What becomes of a want: its state in each play, and the last verdict in words."""
+    last = row[-1]
+    states = " → ".join(verdict.state for verdict in row) if len({verdict.state for verdict in row}) > 1 else last.state
+    told = last.told(times).split(": ", 1)[1]
+    return f'<small>{said(last.want.text)}: <b class="{last.state}">{states}</b>, {said(told)}</small>'
 
 
-def cell(number):
-    """A number in a table."""
-    return "<td>-</td>" if number is None else f"<td>{number:,}</td>"
+def class_line(line: summary.Line, labels: Sequence[str], times: Times) -> str:
+    """The line of a class."""
+    states = [row[-1].state for row in line.verdicts]
+    word = line.word or ("" if not states else wants.KEPT if set(states) == {wants.KEPT} else wants.BROKEN)
+    is_bad = line.flags or any(state != wants.KEPT for state in states)
+    shade = "broken" if is_bad and word not in (summary.WORSE, summary.MIXED) else word
+    flags = "".join(f'<small class="flag">{said(flag)}</small>' for flag in line.flags)
+    told = flags + "".join(verdict_html(row, labels, times) for row in line.verdicts)
+    changed = [" changed" if len(set(values)) > 1 else "" for values in (summary.slowest_text(line, times).split(" → "), line.dropped)]
+    return (f'<li class="{shade}" data-of="{said(line.of)}"><span class="of">{said(line.of)}</span>'
+            f'<span class="slowest{changed[0] if "→" in summary.slowest_text(line, times) else ""}">{summary.slowest_text(line, times)}</span>'
+            f'<span class="word">{word}</span><span class="dropped{changed[1]}">{summary.dropped_text(line)}</span><span class="wants">{told}</span></li>')
 
 
-def row(side, words, numbers, is_first):
-    """A row of a table: what it is of, the play, its numbers."""
-    texts = "".join(f"<td{WORD}>{markup.escape(word)}</td>" for word in words)
-    shade = f"first {side.label}" if is_first else side.label
-    return f'<tr class="{shade}" data-of="{markup.escape(words[-2], quote=True)}" data-play="{side.label}">{texts}{"".join(map(cell, numbers))}</tr>'
+def cell(name: str, number: Optional[int], before: Optional[int], is_after: bool, times: Times) -> str:
+    """A number in a table, bold where a change made it another. A time has its nanoseconds as its title."""
+    is_time = name in late.TIMES
+    text = "-" if number is None else times.number(number) if is_time else f"{number:,}"
+    title = f' title="{number} ns"' if is_time and number is not None and not times.exact else ""
+    return f"<td{title}>{f'<b>{text}</b>' if is_after and number != before else text}</td>"
 
 
-def table(name, head, lines):
-    """A table with its head."""
-    heads = "".join(f'<th{WORD if place < 2 else ""}>{markup.escape(word)}</th>' for place, word in enumerate(head))
-    return f'<table id="{name}"><tr>{heads}</tr>{"".join(lines)}</table>'
+def rows(name: str, head: Sequence[str], labels: Sequence[str], numbers: Sequence[Sequence[Optional[int]]], times: Times) -> list[str]:
+    """The rows of what a table is of: one for each play."""
+    found = []
+    for place, (label, own) in enumerate(zip(labels, numbers)):
+        cells = "".join(cell(what, number, before, place == 1, times) for what, number, before in zip(head, own, numbers[0]))
+        of = said(name) if place == 0 else ""
+        found.append(f'<tr{" class=head" if place == 0 else ""} data-of="{said(name)}" data-play="{label}"><td class="text">{of}</td>'
+                     f'<td class="text">{label}</td>{cells}</tr>')
+    return found
 
 
-def class_table(sides, names):
+def table(name: str, head: Sequence[str], lines: Iterable[str]) -> str:
+    """A table with its head, which is wider than a phone."""
+    heads = "".join(f'<th{" class=text" if place < 2 else ""}>{word}</th>' for place, word in enumerate(head))
+    return f'<div class="wide"><table id="{name}"><tr>{heads}</tr>{"".join(lines)}</table></div>'
+
+
+def with_due(sides: Sequence[Any], head: Sequence[str]) -> list[str]:
+    """The head of a table, with due moments where packets have any."""
+    return [*head, *(late.LATENESS if late.has_due(sides) else [])]
+
+
+def class_numbers(side: Any, own: Any) -> list[Optional[int]]:
+    """A play's numbers of the packets at some places, as CLASS_HEAD names them, and of their due moments."""
+    return [len(own), int(side.is_sent[own].sum()), *(side.count(own, fate) for fate in DROPPED), *late.delays(side, own), *late.lateness(side, own)]
+
+
+def class_table(sides: Sequence[Any], times: Times) -> str:
     """The table by class, with the sum of all where there are several."""
-    lines = []
+    names, head, lines = plays.class_names(sides), with_due(sides, CLASS_HEAD), []
     for name in names + (["all"] if len(names) > 1 else []):
-        owns = [numpy.arange(len(side)) if name == "all" and name not in names else side.class_is(name) for side in sides]
-        for side, own in zip(sides, owns):
-            lines.append(row(side, [name, side.label], class_numbers(side, own), side is sides[0]))
-        if len(sides) == 2:
-            told = "; ".join(line.strip() for line in late.changed(*sides, numpy.union1d(*owns)))
-            lines.append(f'<tr class="changed"><td></td><td colspan="{len(CLASS_HEAD) + 1}">{markup.escape(told)}</td></tr>')
-    return table("classes", ["class", "play", *CLASS_HEAD], lines)
+        owns = [plays.every(side) if name == "all" and name not in names else side.class_is(name) for side in sides]
+        lines += rows(name, head, [side.label for side in sides], [class_numbers(side, own) for side, own in zip(sides, owns)], times)
+    return table("classes", ["class", "play", *head], lines)
 
 
-def flow_table(sides, flows, most):
+def flow_table(sides: Sequence[Any], flows: Any, most: int, times: Times) -> str:
     """The flows that lose most in the last play."""
-    lines = []
+    head, lines = with_due(sides, FLOW_HEAD), []
     for flow, owns in late.losing_flows(sides, flows, most):
-        for side, own in zip(sides, owns):
-            lines.append(row(side, [flows.names[flow], side.label], late.counts(side, own), side is sides[0]))
-    return "<h2>Flows that lose most</h2>" + table("flows", ["flow", "play", *FLOW_HEAD], lines) if lines else ""
+        lines += rows(flows.names[flow], head, [side.label for side in sides], [late.counts(side, own) for side, own in zip(sides, owns)], times)
+    return table("flows", ["flow", "play", *head], lines) if lines else ""
 
 
-def axis(letter, place):
-    """The name of an axis; the first has no number."""
-    return f"{letter}{place + 1}" if place else letter
+def changes(sides: Sequence[Any]) -> str:
+    """Which packets of each class became late or are dropped now."""
+    told = [f"{name}: {'; '.join(late.changed(*sides, plays.of_either(sides, name)))}" for name in plays.class_names(sides)]
+    return f"<pre>{said_lines(told)}</pre>"
 
 
-def trace(times, values, name, place, column, panel):
-    """One line or one class of points of a picture; `panel` is its number, from above."""
-    colour = COLOURS[place % len(COLOURS)]
-    at = panel * 2 + column
-    common = {"type": "scatter", "x": times, "y": values, "name": name, "legendgroup": name, "showlegend": panel == 0 and column == 0,
-              "xaxis": axis("x", at), "yaxis": axis("y", at)}
-    if panel in (1, 2):
-        return {**common, "mode": "markers", "marker": {"color": colour, "symbol": SHAPES[place % len(SHAPES)], "size": 4}}
-    return {**common, "mode": "lines", "line": {"color": colour, "dash": DASHES[place % len(DASHES)], "width": 1.6, "shape": "hv"}}
+def said_lines(lines: Iterable[str]) -> str:
+    """Lines as HTML."""
+    return "\n".join(map(said, lines))
 
 
-def traces(side, names, steps, origin, column):
-    """All that is drawn of a play."""
-    times, found = steps.times(origin), []
-    for place, name in enumerate(names):
-        own = side.class_is(name)
-        lost, took = series.drops(side, own, steps).tolist(), series.delays(side, own, steps).tolist()
-        panels = [series.waiting(side, own, steps).tolist(), [count or None for count in lost],
-                  [None if delay < 0 else delay / 10**6 for delay in took], (series.rate(side, own, steps) / 10**6).tolist()]
-        found += [trace(times, values, name, place, column, panel) for panel, values in enumerate(panels)]
-    return found
-
-
-def scale(drawn, panel, kind):
-    """The range of a part's values: from 0, or on a logarithmic scale the powers of ten around them."""
-    ys = {axis("y", panel * 2 + column) for column in (0, 1)}
-    values = [value for one in drawn if one["yaxis"] in ys for value in one["y"] if value]
-    if kind == "linear":
-        return [0, 1.06 * max(values, default=1)]
-    return [math.floor(math.log10(min(values, default=1))), math.ceil(math.log10(max(values, default=1))) + 0.1]
-
-
-def axes(drawn, columns, steps, origin):
-    """The axes of each part: one scale for the times, and one for both plays in each part."""
-    found, width = {}, 0.47 if columns == 2 else 1.0
-    for column in range(columns):
-        for panel, (title, bottom, top, kind) in enumerate(PANELS):
-            at, left = panel * 2 + column, column * 0.53
-            x, y, grid = axis("x", at), axis("y", at), {"gridcolor": "#e4e4e4", "linecolor": "#444", "zeroline": False}
-            found[x[0] + "axis" + x[1:]] = {
-                **grid, "domain": [left, left + width], "anchor": y, "showticklabels": panel == len(PANELS) - 1, **({"matches": "x"} if at else {}),
-                "range": [(moment - origin) / 10**6 for moment in (steps.begin, steps.end)],
-                "title": {"text": "ms after the first arrival" if panel == len(PANELS) - 1 else ""}}
-            found[y[0] + "axis" + y[1:]] = {
-                **grid, "domain": [bottom, top], "anchor": x, "type": kind, "range": scale(drawn, panel, kind),
-                "title": {"text": title if column == 0 else ""}, **({"matches": axis("y", at - 1)} if column else {})}
-    return found
-
-
-def layout(drawn, sides, steps, origin):
-    """The parts of the picture below each other, a column for each play."""
-    width = 0.47 if len(sides) == 2 else 1.0
-    heads = [{"text": side.label, "x": column * 0.53 + width / 2, "y": 1.03, "xref": "paper", "yref": "paper", "showarrow": False}
-             for column, side in enumerate(sides)]
-    return {"height": PICTURE, "width": 1150, "margin": {"l": 70, "r": 15, "t": 60, "b": 50}, "plot_bgcolor": "#fff", "hovermode": "closest",
-            "legend": {"orientation": "h", "y": 1.06, "x": 0}, "annotations": heads, **axes(drawn, len(sides), steps, origin)}
-
-
-def plotly_source():
-    """The text of plotly.js."""
-    from plotly.offline import get_plotlyjs
-
-    return get_plotlyjs()
-
-
-def most_packets(sides, names):
+def most_packets(sides: Sequence[Any], names: Sequence[str]) -> list[str]:
     """The classes that are drawn: those with the most packets, in their order."""
     counts = {name: max(len(side.class_is(name)) for side in sides) for name in names}
-    chosen = sorted(names, key=counts.get, reverse=True)[:MOST_DRAWN]
+    chosen = sorted(names, key=lambda name: counts[name], reverse=True)[:MOST_DRAWN]
     return [name for name in names if name in chosen]
 
 
-def picture(sides, names, part):
-    """The pictures over time, as a part of the page."""
-    shown = most_packets(sides, names)
-    steps = series.Steps(*part)
-    origin = min((int(side.arrival.min()) for side in sides if len(side)), default=0)
-    drawn = [one for column, side in enumerate(sides) for one in traces(side, shown, steps, origin, column)]
-    part_drawn = f" Drawn are the {MOST_DRAWN} classes with the most packets." if len(shown) < len(names) else ""
-    told = (f"<p>In {steps.count:,} steps of {steps.size:,} ns. A drop and a delay stand at the packet's arrival; a rate is that of the"
-            f" {series.WIDE} steps up to where it stands.{part_drawn}</p>")
-    data = json.dumps(drawn).replace("</", "<\\/")
-    return (f'{told}<div id="plot"></div><script>{plotly_source()}</script>'
-            f'<script>Plotly.newPlot("plot", {data}, {json.dumps(layout(drawn, sides, steps, origin))}, {{displaylogo: false}})</script>')
+def delay_picture(sides: Sequence[Any], name: str, steps: series.Steps, asked: Sequence[wants.Want]) -> over_time.Picture:
+    """The greatest delays of a class over time, its drops, and its wants of a delay."""
+    owns = [side.class_is(name) for side in sides]
+    drawn = [[None if delay < 0 else delay / 10**6 for delay in series.delays(side, own, steps).tolist()] for side, own in zip(sides, owns)]
+    lines = [(float(want.bound) / 10**6, f"want {want.operator} {float(want.bound) / 10**6:g} ms") for want in asked if want.of == name and want.measure == "delay"]
+    return over_time.Picture(name, "greatest delay, ms", drawn, [series.drops(side, own, steps).tolist() for side, own in zip(sides, owns)], lines)
 
 
-def html(question, flows, most, part):
-    """The page of a question, drawn from and to two moments, and about how high it is in pixels; `flows` may be None."""
-    sides = question.sides
-    names = list(dict.fromkeys(name for side in sides for name in side.classes()))
-    heads = [f"{side.label}: {config}: {late.heading(side).split(': ', 1)[1]}" for side, (_label, config) in zip(sides, question.configs)]
-    title = ", then ".join(os.path.basename(config) for _label, config in question.configs)
-    above = "".join(f"<p>{markup.escape(line)}</p>" for line in question.told + heads) + class_table(sides, names)
-    below = flow_table(sides, flows, most) if flows else ""
-    high = PICTURE + 180 + 23 * (above + below).count("<tr") + 21 * above.count("<p>")
-    head = f'<meta charset="utf-8"><title>altqplay: {markup.escape(title)}</title><style>{STYLE}</style>'
-    body = f"<h1>{markup.escape(title)}</h1>\n{above}\n{picture(sides, names, part)}\n{below}"
-    return f'<!DOCTYPE html>\n<html lang="en"><head>{head}</head><body>\n{body}\n</body></html>\n', high
+def load_pictures(sides: Sequence[Any], name: str, steps: series.Steps, asked: Sequence[wants.Want]) -> list[over_time.Picture]:
+    """The packets of a class that wait, and the rate at which it is sent."""
+    owns = [side.class_is(name) for side in sides]
+    lines = [(float(want.bound) / 10**6, f"want {want.operator} {float(want.bound) / 10**6:g} Mbit/s") for want in asked if want.of == name and want.measure == "rate"]
+    waits = [series.waiting(side, own, steps).tolist() for side, own in zip(sides, owns)]
+    rates = [(series.rate(side, own, steps) / 10**6).tolist() for side, own in zip(sides, owns)]
+    return [over_time.Picture(name, "packets that wait", waits), over_time.Picture(name, f"Mbit/s sent, each over {series.WIDE} steps", rates, wants=lines)]
+
+
+class Drawing:
+    """The pictures of a page, on one axis of seconds after the first arrival."""
+
+    def __init__(self, sides: Sequence[Any], asked: Sequence[wants.Want], part: tuple[int, int]) -> None:
+        self.sides, self.asked, self.steps = sides, asked, series.Steps(*part)
+        self.names = plays.class_names(sides)
+        self.shown = most_packets(sides, self.names)
+        origin = min((int(side.arrival.min()) for side in sides if len(side)), default=0)
+        self.begin, self.size = (part[0] - origin) / 10**9, self.steps.size / 10**9
+
+    def html(self, pictures: Sequence[over_time.Picture]) -> str:
+        """Pictures below each other."""
+        many = " many" if len(self.shown) > MANY else ""
+        drawn = over_time.figures(pictures, [side.label for side in self.sides], self.begin, self.size)
+        return drawn.replace('class="pictures"', f'class="pictures{many}"', 1)
+
+    def delays(self) -> str:
+        """A picture a class: what the page is for."""
+        return self.html([delay_picture(self.sides, name, self.steps, self.asked) for name in self.shown])
+
+    def loads(self) -> str:
+        """Two pictures a class, folded."""
+        return self.html([picture for name in self.shown for picture in load_pictures(self.sides, name, self.steps, self.asked)])
+
+    def key(self, times: Times) -> str:
+        """What the colours and the steps are."""
+        labels = [side.label for side in self.sides]
+        shades = '<i class="first"></i>before<i class="last"></i>after' if len(labels) == 2 else f'<i class="last"></i>{labels[0]}'
+        want = '<i class="asked"></i>wanted' if any(want.measure == "delay" for want in self.asked) else ""
+        rest = f" Drawn are the {MOST_DRAWN} classes with the most packets." if len(self.shown) < len(self.names) else ""
+        return (f'<p class="key">{shades}{want}</p><p>Seconds after the first arrival, in {self.steps.count:,} steps of {times.text(self.steps.size)}:'
+                f" the greatest delay of the packets that arrive in each, and below it where packets are dropped.{rest}</p>")
+
+
+def folded(title: str, body: str) -> str:
+    """A part that opens by a click."""
+    return f"<details><summary>{title}</summary>{body}</details>" if body else ""
+
+
+def html(question: Any, verdicts: Sequence[Sequence[wants.Verdict]], times: Times, flows: Optional[str], part: tuple[int, int]) -> str:
+    """The page of a question, drawn from and to two moments; `flows` is the table of flows, or None."""
+    sides, labels = question.sides, [side.label for side in question.sides]
+    title = " → ".join(os.path.basename(config) for _label, config in question.configs)
+    lines = "".join(class_line(line, labels, times) for line in summary.lines(sides, verdicts))
+    drawing = Drawing(sides, [row[0].want for row in verdicts], part)
+    heads = [f"{label}: {config}: {late.heading(side, times).split(': ', 1)[1]}" for side, (label, config) in zip(sides, question.configs)]
+    above = "".join(f"<p>{said(text)}</p>" for text in [*question.told, summary.default_texts(sides) + "."])
+    unit = f"<p>Times are in {'nanoseconds' if times.exact else 'milliseconds; a time says its nanoseconds where the mouse rests on it'}.</p>"
+    below = [folded("Numbers by class", unit + class_table(sides, times)), folded("Packets that wait, and rates, over time", drawing.loads()),
+             folded("Flows that lose most", flows or ""), folded("Packets that became late or are dropped now", changes(sides) if len(sides) == 2 else ""),
+             folded("What was played", f"<pre>{said_lines(heads)}</pre>")]
+    with open(STYLE, encoding="ascii") as file:
+        style = file.read()
+    head = f'<meta charset="utf-8"><meta name="viewport" content="width=device-width, initial-scale=1"><title>altqplay: {said(title)}</title><style>{style}</style>'
+    body = (f'<h1>{said(title)}</h1>\n{above}\n<ul class="classes">{lines}</ul>\n<h2>Delays over time</h2>{drawing.key(times)}\n{drawing.delays()}\n'
+            + "\n".join(below) + f"\n<script>{SCRIPT}</script>")
+    return f'<!DOCTYPE html>\n<html lang="en"><head>{head}</head><body>\n{body}\n</body></html>\n'

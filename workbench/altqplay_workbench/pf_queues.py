@@ -172,13 +172,13 @@ def hfsc_class(queue, name, parent, own, notes):
         if curve.d and 0 < curve.m1 < curve.m2:
             notes.refuse(queue.curves[word].word, "m1 is 0 or at least m2, here as in pf")
     if queue.children and "rt" in curves:
-        notes.add(queue.curves["rt"].word, "a class with classes below it is promised nothing by real time, so it is left out")
+        notes.add(queue.curves["rt"].word, "a class with classes below it is promised nothing by real time, so it is left out", has_effect=False)
         del curves["rt"]
     if "ul" in curves and curves["ul"].d and curves["ul"].m1 == 0:
         notes.add(queue.curves["ul"].word, "an upper limit of 0 at first has no equivalent, and is left out")
         del curves["ul"]
     if "priority" in queue.options:
-        notes.add(queue.options["priority"][0], "a class of HFSC has no priority, and it is left out")
+        notes.add(queue.options["priority"][0], "a class of HFSC has no priority, and it is left out", has_effect=False)
     if "borrow" in queue.flags:
         notes.refuse(queue.flags["borrow"], "no option of hfsc")
     share = curves.get("ls")
@@ -258,7 +258,7 @@ def passed_over(altqs, queues, notes):
         for option, text in (("tbrsize", "it has no effect here: a link sends packet after packet"),
                              ("qlimit", "the root of an interface holds no packets, so it is left out")):
             if option in altq.options and altq.scheduler.text in ("cbq", "hfsc"):
-                notes.add(altq.options[option][0], text)
+                notes.add(altq.options[option][0], text, has_effect=False)
         if altq.scheduler.text not in ("cbq", "hfsc"):
             notes.add(altq.scheduler, f"{altq.scheduler.text} has no equivalent: its interface is left out with its queues")
             interfaces |= {word.text for word in altq.interfaces}

@@ -10,9 +10,9 @@ from concurrent.futures import ThreadPoolExecutor
 
 import numpy
 
-from .captures import CLASSIC, Frames
+from .captures import Frames
 from .conf import read_conf
-from .convert import add_lengths, converted
+from .convert import add_lengths, converted, is_playable
 from .due import BYTE, MOST, due_moments
 from .faults import Refused
 from .play import add_program, play
@@ -79,6 +79,11 @@ def class_names(sides):
     return list(dict.fromkeys(name for side in sides for name in side.classes()))
 
 
+def every(side):
+    """The places of all packets of a play."""
+    return numpy.arange(len(side))
+
+
 def of_either(sides, name):
     """The places of the packets that are of a class in any of some plays."""
     owns = [side.class_is(name) for side in sides]
@@ -114,17 +119,6 @@ def add_arguments(parser):
     parser.add_argument("arrivals", nargs="?", help="the capture of the arrivals, of any kind; without it no flows are told")
 
 
-def is_playable(name, args):
-    """Whether the program reads a capture as it is."""
-    if args.overhead or args.atm:
-        return False
-    with open(name, "rb") as file:
-        head = file.read(24)
-    order, _unit = CLASSIC.get(head[:4], (None, 0))
-    link = head[20:22] if order == "<" else head[22:24][::-1]
-    return order is not None and link == b"\x01\x00"
-
-
 class Question:
     """The plays that the words name, as `sides`, and the `frames` of the arrivals, or None without a capture.
 
@@ -152,7 +146,7 @@ class Question:
     def capture(self):
         """The capture that is played: the arrivals, or what they are converted to."""
         name = self.args.arrivals
-        if name is None or is_playable(name, self.args):
+        if name is None or is_playable(name, self.args.overhead, self.args.atm):
             return name
         made = os.path.join(self.folder, "arrivals.pcap")
         self.told = converted(name, made, self.args).told()

@@ -1,19 +1,24 @@
-"""Writes one page that stands alone, HTML with nothing to load: a play by class, or before and after a change side by side.
+"""Writes one page that stands alone, HTML with nothing to load: a play by class, or before and after a change.
 
-    altqwork report --before today.conf --after new.conf arrivals.pcap report.html
+    altqwork report --before today.conf --after new.conf --want 'voice delay<10ms' arrivals.pcap report.html
     altqwork report --config today.conf --fates fates.csv report.html
 
-It tells of each class the drops, the delays by rank and the lateness (as `late` does), draws over time the packets that wait,
-the drops, the greatest delays and the rate sent, in 1,000 steps, and lists the flows that lose most. A picture zooms by the
-mouse; --from and --to draw a part in finer steps. Numbers of tables are exact and of the whole play, times in
-nanoseconds. --picture also writes what the page shows as PNG, by Chromium.
+On top a line a class says how long its slowest packet takes, whether that is worse, what is dropped, and whether each --want is
+kept. Below it a picture a class shows the greatest delays and the drops over time, in 1,000 steps, before and after on one axis;
+--from and --to draw a part in finer steps. What is folded below has all numbers, of the whole play: the delays by rank, the
+lateness (as `late` says it), the packets that wait, the rates, the flows that lose most, the packets that became late or are
+dropped now. What a change made another number is bold. --picture also writes what the page shows as PNG, by Chromium.
+
+The exit status is that of `late`: 0 where the play, or the one after the change, has no late packet, the change took no packet's due
+moment away, and each --want is kept; else 1, and what is not so is said.
 """
 
 import decimal
 
-from . import browser, page, plays
+from . import browser, late, page, plays, summary, wants
 from .faults import Refused
 from .flows import Flows
+from .texts import Times, add_times
 
 NAME = "report"
 HELP = "one page that stands alone: a play by class, or before and after a change"
@@ -36,6 +41,8 @@ def add_arguments(parser):
     parser.add_argument("--to", dest="end", type=milliseconds, metavar="MS", help="draws up to here")
     parser.add_argument("--flows", type=int, default=10, metavar="N", help="how many flows to tell, 10 by default")
     parser.add_argument("--picture", metavar="FILE", help="also writes what the page shows as PNG; it needs Chromium")
+    wants.add_wants(parser)
+    add_times(parser)
     parser.add_argument("page", help="the page to write, HTML")
 
 
@@ -50,18 +57,28 @@ def span(side, begin, end):
     return begin, end
 
 
+def told(args, sides, verdicts, times):
+    """What the command says: how much was played, and what is not well."""
+    lines = [f"{len(sides[0])} packets in {args.page}; {summary.default_texts(sides)}"]
+    for line in summary.lines(sides, verdicts):
+        lines += [f"{line.of}: {flag}" for flag in line.flags]
+    return lines + wants.lines([side.label for side in sides], verdicts, times)
+
+
 def run(args):
     if not args.page.endswith((".html", ".htm")):
         raise Refused(f"{args.page}: the last word is the page to write, whose name ends in .html")
+    times = Times(args.ns)
     with plays.Question(args) as question:
         sides = question.sides
+        verdicts = wants.of_sides(args.wants, sides)
         whole = [span(side, args.begin, args.end) for side in sides]
         part = (min(begin for begin, _end in whole), max(end for _begin, end in whole))
-        flows = Flows(question.frames) if question.frames else None
-        text, height = page.html(question, flows, args.flows, part)
+        flows = page.flow_table(sides, Flows(question.frames), args.flows, times) if question.frames else None
+        text = page.html(question, verdicts, times, flows, part)
     with open(args.page, "w", encoding="utf-8") as file:
         file.write(text)
-    print(f"{len(sides[0])} packets in {args.page}")
+    print("\n".join(told(args, sides, verdicts, times)))
     if args.picture:
-        browser.picture(args.page, height, page.COLOURS, args.picture)
-    return 0
+        browser.picture(args.page, args.picture)
+    return 0 if late.is_well(sides, verdicts) else 1

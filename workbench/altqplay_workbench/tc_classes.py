@@ -90,7 +90,7 @@ class Reader:
             device.leaves[handle(parent, self.notes)] = [kind] + options
             return
         if kind.text in ("ingress", "clsact"):
-            self.notes.add(kind, "what comes in waits in no queue here, so it is left out")
+            self.notes.add(kind, "what comes in waits in no queue here, so it is left out", has_effect=False)
             return
         if not any(word.text == "root" for word in words):
             self.notes.refuse(kind, "it has no parent and is no root")
@@ -214,7 +214,7 @@ class Maker:
             self.notes.add(values["m1"], "a first slope above 0 and below m2 has no equivalent: m1 is 0")
             m1 = 0
         if d % MS:
-            self.notes.add(word, "the bend of a curve is at a whole millisecond here: it is rounded up")
+            self.notes.add(word, "the bend of a curve is at a whole millisecond here: it is rounded up", has_effect=False)
         return Curve(int(m1), int(-(-d // MS)), m2)
 
     def one(self, name, tc):
@@ -225,7 +225,7 @@ class Maker:
             curves.update({"rt": made, "ls": made} if word == "sc" else {word: made})
         is_inner = name in self.inner
         if is_inner and "rt" in tc.curves:
-            self.notes.add(tc.curves["rt"][0], "a class with classes below it is promised nothing by real time, so it is left out")
+            self.notes.add(tc.curves["rt"][0], "a class with classes below it is promised nothing by real time, so it is left out", has_effect=False)
         realtime = None if is_inner else curves.get("rt")
         if "ls" not in curves:
             if "rt" not in tc.curves:

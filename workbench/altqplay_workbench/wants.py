@@ -66,12 +66,12 @@ class Verdict:
         if self.worst is None:
             return f"{self.state}: no packet of {self.want.of} was {'sent' if self.want.measure == 'delay' else 'there'}"
         if self.want.measure == "drop":
-            return f"{self.state}: {self.worst} of {self.packets} packets dropped"
+            return f"{self.state}: {self.worst:,} of {self.packets:,} packets dropped"
         if self.want.measure == "rate":
-            return f"{self.state}: {rate_text(self.worst)} over {self.packets} packets"
+            return f"{self.state}: {rate_text(self.worst)} over {self.packets:,} packets"
         if self.state == KEPT:
-            return f"{self.state}: {self.packets} packets, the slowest {times.text(int(self.worst))}"
-        return f"{self.state}: {self.breaking} of {self.packets} packets, the slowest {times.text(int(self.worst))}"
+            return f"{self.state}: {self.packets:,} packets, the slowest {times.text(int(self.worst))}"
+        return f"{self.state}: {self.breaking:,} of {self.packets:,} packets, the slowest {times.text(int(self.worst))}"
 
 
 def rate_text(rate: Fraction | int) -> str:

@@ -1,6 +1,7 @@
 """What the workbench reads of a configuration: the interface that is named, among others."""
 
 import pytest
+from conftest import classic
 
 from altqplay_workbench.conf import Curve, read_conf
 from altqplay_workbench.faults import Refused
@@ -26,3 +27,12 @@ def test_the_interface_that_is_named(program, tmp_path):
     assert [line[3] for line in other.lines] == ["root", "a"] and not other.classes["root"].is_default and other.classes["a"].is_default
     with pytest.raises(Refused, match="2 interfaces"):
         read_conf(str(tmp_path / "c.conf"))
+
+
+@pytest.mark.parametrize("text, what", [("ext = em0\naltq on em0 cbq bandwidth 8Mb queue { a }\n", "a pf.conf"), ("<?xml version='1.0'?>\n<pfsense>\n", "config.xml"),
+                                        ("tc qdisc add dev eth0 root handle 1: hfsc default 1\n", "lines of tc")])
+def test_another_kind_of_configuration_is_named(altqwork, tmp_path, text, what):
+    (tmp_path / "given").write_text(text)
+    (tmp_path / "a.pcap").write_bytes(classic(1, []))
+    status, _said, fault = altqwork("late", "--config", tmp_path / "given", tmp_path / "a.pcap")
+    assert status == 2 and what in fault and "0 interfaces" not in fault

@@ -1,8 +1,13 @@
 """`convert`: captures that tcpdump and editcap wrote, every link type by hand, lengths, and what is refused."""
 
+import bz2
 import gzip
+import lzma
 import random
+import shutil
 import struct
+import subprocess
+import sys
 
 import pytest
 from conftest import ETHERNET, classic, data, frames, udp
@@ -78,28 +83,116 @@ def test_what_cannot_be_told_is_refused(altqwork, tmp_path, link, packet, why):
     assert [path.name for path in tmp_path.iterdir()] == ["any.pcap"]
 
 
-@pytest.mark.parametrize("name, counts", [("cooked.pcap", range(7)), ("cooked2.pcapng", range(7))])
-def test_a_cut_capture_is_refused_or_ends_between_records(altqwork, tmp_path, name, counts):
+def whole_frames(altqwork, tmp_path, text):
+    """The frames of a capture's conversion and what was said, or None where it was refused."""
+    (tmp_path / "cut").write_bytes(text)
+    status, said, fault = altqwork("convert", tmp_path / "cut", tmp_path / "made.pcap")
+    if status == 0:
+        assert fault == ""
+        return frames(tmp_path / "made.pcap"), said
+    assert status == 2 and said == "" and str(tmp_path / "cut") in fault
+    return None
+
+
+@pytest.mark.parametrize("name", ["cooked.pcap", "cooked2.pcapng"])
+def test_of_a_cut_capture_the_whole_records_are_taken(altqwork, tmp_path, name):
+    """Ctrl-C of tcpdump leaves a file that ends anywhere; one record less is said, and one that has none is refused."""
     with open(data(name), "rb") as file:
         text = file.read()
-    whole = set()
-    for size in range(len(text) + 1):
-        (tmp_path / "cut").write_bytes(text[:size])
-        status, said, fault = altqwork("convert", tmp_path / "cut", tmp_path / "made.pcap")
-        if status == 0:
-            whole.add((len(frames(tmp_path / "made.pcap")), size))
-        else:
-            assert status == 2 and said == "" and str(tmp_path / "cut") in fault
-    assert {count for count, _size in whole} == set(counts)
-    assert len(whole) <= len(counts) + 4  # pcapng may end behind blocks that are no packets, too
+    everything, counts, ends = whole_frames(altqwork, tmp_path, text)[0], set(), 0
+    for size in range(0, len(text), 3 if name.endswith("ng") else 1):
+        answer = whole_frames(altqwork, tmp_path, text[:size])
+        found = answer[0] if answer else []
+        assert found == everything[:len(found)]
+        if answer and "ends within record" in answer[1]:
+            assert f"it ends within record {len(found) + 1}: the {len(found)} whole records before it are taken" in answer[1]
+            counts.add(len(found))
+        ends += answer is not None and "ends within" not in answer[1]
+    assert counts == set(range(1, 6)) and ends <= 10
 
 
-def test_cut_gzip_is_refused(altqwork, tmp_path):
-    with open(data("cooked.pcap.gz"), "rb") as file:
-        text = file.read()
-    for size in range(2, len(text)):
-        (tmp_path / "cut.gz").write_bytes(text[:size])
-        assert altqwork("convert", tmp_path / "cut.gz", tmp_path / "made.pcap")[0] == 2
+PACKERS = {"gz": gzip.compress, "bz2": bz2.compress, "xz": lzma.compress,
+           "zst": lambda text: subprocess.run(["zstd", "-qc"], input=text, stdout=subprocess.PIPE, check=True).stdout}
+
+
+@pytest.mark.parametrize("ending", PACKERS)
+@pytest.mark.parametrize("times", [1, 40])
+def test_packed_captures(altqwork, tmp_path, ending, times):
+    """Whole, cut anywhere, and with a damaged byte: all records, whole ones, or a sentence."""
+    if ending == "zst" and shutil.which("zstd") is None:
+        pytest.skip("zstd is not installed")
+    with open(data("cooked.pcap"), "rb") as file:
+        plain = file.read()
+    plain += plain[24:] * (times - 1)
+    everything, _said = whole_frames(altqwork, tmp_path, plain)
+    packed = PACKERS[ending](plain)
+    assert whole_frames(altqwork, tmp_path, packed)[0] == everything
+    if ending != "zst":
+        assert whole_frames(altqwork, tmp_path, PACKERS[ending](plain[:99]) + PACKERS[ending](plain[99:]))[0] == everything
+    for size in range(2, len(packed), 1 if ending != "zst" and times == 1 else len(packed) // 12):
+        answer = whole_frames(altqwork, tmp_path, packed[:size])
+        assert answer is None or (answer[0] == everything[:len(answer[0])] and "ends within record" in answer[1])
+    middle = len(packed) // 2
+    answer = whole_frames(altqwork, tmp_path, packed[:middle] + bytes([packed[middle] ^ 0x5A]) + packed[middle + 1:])
+    assert answer is None
+
+
+def test_zstd_without_a_tool(altqwork, tmp_path, monkeypatch):
+    monkeypatch.setenv("PATH", str(tmp_path))
+    monkeypatch.setitem(sys.modules, "zstandard", None)
+    (tmp_path / "a.pcap.zst").write_bytes(bytes.fromhex("28b52ffd") + bytes(20))
+    status, _said, fault = altqwork("convert", tmp_path / "a.pcap.zst", tmp_path / "made.pcap")
+    assert status == 77 and "neither the command zstd nor Python's zstandard is installed" in fault
+
+
+def pppoe(packet, protocol=0x0021, head=b"\x11\0", tag=b""):
+    """A frame of a PPPoE session (RFC 2516)."""
+    return ETHERNET + tag + b"\x88\x64" + head + struct.pack(">HHH", 7, len(packet) + 2, protocol) + packet
+
+
+@pytest.mark.parametrize("frame, carried", [
+    (pppoe(IP), ETHERNET + b"\x08\x00" + IP), (pppoe(IP_6, 0x0057), ETHERNET + b"\x86\xdd" + IP_6),
+    (pppoe(IP, tag=b"\x81\0\0\7"), ETHERNET + b"\x81\0\0\7\x08\x00" + IP), (pppoe(IP, 0xC021), None), (pppoe(IP, head=b"\x11\x09"), None),
+    (pppoe(b"")[:19], None)])
+def test_pppoe(altqwork, tmp_path, frame, carried):
+    """The packet stands where filters look, and the length on the line stays."""
+    (tmp_path / "a.pcap").write_bytes(classic(1, [(5, frame, 1500)]))
+    status, said, _fault = altqwork("convert", tmp_path / "a.pcap", tmp_path / "made.pcap")
+    assert status == 0 and frames(tmp_path / "made.pcap") == [(5, carried or frame, 1500)]
+    assert ("1 packets stood in PPPoE" in said) == (carried is not None)
+
+
+def test_late_looks_into_pppoe(altqwork, program, tmp_path):
+    (tmp_path / "c.conf").write_text("interface if0 bandwidth 8M hfsc\nclass hfsc if0 root NULL pshare 100\nclass hfsc if0 voip root pshare 50\n"
+                                     "class hfsc if0 rest root pshare 50 default\nfilter if0 voip 0 5004 0 0 17\n")
+    (tmp_path / "a.pcap").write_bytes(classic(1, [(5, pppoe(IP), 1500)]))
+    status, said, _fault = altqwork("late", "--config", tmp_path / "c.conf", tmp_path / "a.pcap")
+    assert status == 0 and "1 packets stood in PPPoE" in said and "voip\n" in said and "rest\n" not in said
+
+
+@pytest.mark.parametrize("subcommand, more", [("late", []), ("report", ["page.html"])])
+def test_a_damaged_or_cut_capture_is_no_traceback(altqwork, program, tmp_path, monkeypatch, subcommand, more):
+    monkeypatch.chdir(tmp_path)
+    (tmp_path / "c.conf").write_text("interface if0 bandwidth 8M hfsc\n")
+    text = classic(1, [(5 + k, ETHERNET + b"\x08\x00" + udp(5004 + k), 300) for k in range(9)])
+    packed = gzip.compress(text)
+    (tmp_path / "damaged.pcap.gz").write_bytes(packed[:40] + bytes(20) + packed[60:])
+    status, _said, fault = altqwork(subcommand, "--config", tmp_path / "c.conf", tmp_path / "damaged.pcap.gz", *more)
+    assert status == 2 and "what gzip packed is damaged" in fault
+    (tmp_path / "cut.pcap").write_bytes(text[:-1])
+    status, said, fault = altqwork(subcommand, "--config", tmp_path / "c.conf", tmp_path / "cut.pcap", *more)
+    assert status == 0 and fault == ""
+    page = (tmp_path / "page.html").read_text() if more else said
+    assert "it ends within record 9: the 8 whole records before it are taken" in page
+
+
+def test_several_captures_are_merged_by_their_stamps(altqwork, tmp_path):
+    for name, stamps in (("a.pcap", [1, 5, 9]), ("b.pcap", [2, 5, 6])):
+        (tmp_path / name).write_bytes(classic(1, [(at, ETHERNET + name[:1].encode() * 2 + IP, 100) for at in stamps]))
+    status, said, _fault = altqwork("convert", tmp_path / "a.pcap", tmp_path / "b.pcap", tmp_path / "made.pcap")
+    assert (status, said) == (0, "6 packets of Ethernet\n")
+    assert [(at, captured[12:13]) for at, captured, _length in frames(tmp_path / "made.pcap")] == [
+        (1, b"a"), (2, b"b"), (5, b"a"), (5, b"b"), (6, b"b"), (9, b"a")]
 
 
 @pytest.mark.parametrize("length, words, reckoned", [
