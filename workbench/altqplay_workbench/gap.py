@@ -18,6 +18,7 @@ from .faults import Refused
 from .gap_picture import picture
 from .play import add_program
 from .rows import fate_rows
+from .written import new_file
 
 NAME = "gap"
 HELP = "how far the shares of sibling classes lay apart, over time"
@@ -128,7 +129,7 @@ def line(interface, fates, pair, longest):
 
 def write_rows(name, interface, found, pair):
     """Writes the gap over time."""
-    with open(name, "w", newline="", encoding="ascii") as file:
+    with new_file(name, "w", newline="", encoding="ascii") as file:
         rows = csv.writer(file, lineterminator="\n")
         rows.writerow(["first", "second", "stretch", "moment", "gap"])
         for number, stretch in enumerate(found, 1):
@@ -159,6 +160,6 @@ def run(args):
         if args.picture:
             drawn = [[(at, gap) for at, gap, _first in gaps(interface, stretch, pair)] for stretch in found]
             own = bound(interface, pair[0], longest)
-            with open(args.picture, "w", encoding="ascii") as file:
+            with new_file(args.picture, "w", encoding="ascii") as file:
                 file.write(picture(f"{pair[0]} and {pair[1]}", drawn, own or args.bound, own is not None))
     return 0

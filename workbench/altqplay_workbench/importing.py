@@ -19,6 +19,7 @@ from .faults import Missing, Refused
 from .pf_words import statements
 from .printable import printable
 from .tc_words import commands
+from .written import new_file
 
 NAME = "import"
 HELP = "make an altq.conf of the queues of pf.conf or tc"
@@ -111,7 +112,7 @@ def run(args):
     if args.to is None:
         sys.stdout.write(conf)
     else:
-        with open(args.to, "w", encoding="utf-8") as file:
+        with new_file(args.to, "w", encoding="utf-8") as file:
             file.write(conf)
         names = ", ".join(one.name for one in interfaces)
         classes, filters = (sum(len(part) for part in parts) for parts in zip(*((one.classes, one.filters) for one in interfaces)))

@@ -26,6 +26,7 @@ from .why_csv import Rows
 from .why_inputs import question
 from .why_pictures import offer_lines, picture_of, state_lines
 from .why_replay import Behind, Replay
+from .written import new_file
 
 NAME = "why"
 HELP = "the numbers behind a decision, and whether the fates are those of the rules"
@@ -98,7 +99,7 @@ def run(args: Namespace) -> int:
     replay = Replay(asked)
     told = Told(replay, args)
     if args.csv:
-        with open(args.csv, "w", newline="", encoding="ascii") as file:
+        with new_file(args.csv, "w", newline="", encoding="ascii") as file:
             follow(replay, told, Rows(file, replay.play))
     else:
         follow(replay, told, None)
