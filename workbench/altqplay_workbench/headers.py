@@ -7,9 +7,9 @@ IPv6 are passed, as pf passes them, and TCP's flags, bare acknowledgements and t
 from __future__ import annotations
 
 import numpy
-import pandas
 
-from .flows import Heads
+from .columns import distinct
+from .flows import Heads, numbered
 
 TAGS, EXTENSIONS = (0x8100, 0x88A8), (0, 43, 44, 51, 60)
 TCP, UDP, ICMP, ICMP6, FRAGMENT, AH = 6, 17, 1, 58, 44, 51
@@ -41,9 +41,9 @@ class Headers:
         """The number of each row's group, of those that agree in some columns; numbers are in the order of their first rows."""
         found = numpy.zeros(len(self), dtype=numpy.int64)
         for name in names:
-            codes, kinds = pandas.factorize(getattr(self, name))
-            found = pandas.factorize(found * max(len(kinds), 1) + codes)[0]
-        return found
+            kinds, codes = distinct(getattr(self, name))
+            found = distinct(found * len(kinds) + codes)[1]
+        return numbered(found)[0]
 
 
 def first_rows(groups):

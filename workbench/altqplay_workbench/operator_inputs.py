@@ -16,7 +16,7 @@ import numpy
 
 from . import importing, pf_filters, tc_filters
 from .altq_text import MOST_FILTERS, Note, Notes, text_of, try_all
-from .captures import LONGEST, Frames
+from .captures import LONGEST, Frames, frames_of
 from .conf import interface_named, read_conf
 from .config_kinds import kind_of
 from .convert import converted, is_playable
@@ -185,7 +185,7 @@ def prepared(config: str, interface: Optional[str], captures: Sequence[str], fol
     read = read_config(config, interface, options, selectors)
     os.makedirs(folder, exist_ok=True)
     shown, told = playable(captures, folder, options)
-    frames = Frames(shown)
+    frames = frames_of(shown)
     numbers = numpy.arange(len(frames) + 1)
     told += told_of_frames(frames)
     if not selectors and not any(note.has_effect for note in read.unsaid.all()):
@@ -201,3 +201,9 @@ def prepared(config: str, interface: Optional[str], captures: Sequence[str], fol
     names = [placed.classes[number] for number in placed.of_class.tolist()] if read.classify else None
     conf_text = read.bare_text + filters(read.interface, placed.classes, marking.base, rule)
     return Prepared(conf_text, read.interface, read.notes.all(), arrivals, captures[0], shown, numbers, told + told_of(placed, marking), names)
+
+
+def without_captures(config: str, interface: Optional[str], marks: Sequence[str] = (), options: Optional[Options] = None) -> Prepared:
+    """A configuration of plays that were made: nothing is played of it."""
+    read = read_config(config, interface, options or Options(), marks_of(marks))
+    return Prepared(read.conf_text, read.interface, read.notes.all() + read.unsaid.all(), "", "", "", numpy.arange(1))

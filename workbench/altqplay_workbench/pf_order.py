@@ -12,10 +12,11 @@ from __future__ import annotations
 from typing import List, NamedTuple
 
 import numpy
-import pandas
 
 from .altq_text import Interface, Notes
 from .asked import has_port
+from .columns import distinct
+from .flows import numbered
 from .headers import ACK, COLUMNS, SYN, TCP, Headers, Reading, first_rows
 from .pf_rules import Rule
 
@@ -146,7 +147,7 @@ class Order:
         """The verdicts of all packets, or of those that they answer, at two places that a packet passes one behind the other."""
         tags, found = numpy.zeros(len(kinds.of), dtype=numpy.int64), []
         for place in places:
-            of = pandas.factorize(kinds.of * len(self.tags) + tags)[0]
+            of = numbered(distinct(kinds.of * len(self.tags) + tags)[1])[0]
             rows = first_rows(of)
             heads = (kinds.asked if is_asked else kinds.heads).at(rows)
             of_rows = tags[rows]
