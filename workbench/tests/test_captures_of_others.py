@@ -52,7 +52,7 @@ def whole(capture, tmp_path):
 @pytest.mark.parametrize("capture", LONGER, ids=map(os.path.basename, LONGER))
 def test_rules_are_those_of_tshark(tmp_path, capture, asked, condition):
     capture = whole(capture, tmp_path)
-    _lines, rules, (interface,) = importing.pf_parts(f"{HEAD}pass out on em0 {asked} no state queue a\n", options_of("text", addresses={}), Notes("text"))
+    rules, (interface,) = importing.pf_parts(f"{HEAD}pass out on em0 {asked} no state queue a\n", options_of("text", addresses={}), Notes("text"))
     placed = pf_order.placed(interface, rules, Frames(capture))
     found = {number for number, of in enumerate(placed.of_class, 1) if placed.classes[of] == "a"}
     assert found - shown(capture, TUNNELS) == shown(capture, condition) - shown(capture, TUNNELS)
@@ -61,7 +61,7 @@ def test_rules_are_those_of_tshark(tmp_path, capture, asked, condition):
 @pytest.mark.parametrize("capture", LONGER, ids=map(os.path.basename, LONGER))
 def test_bare_acknowledgements_are_those_of_tshark(tmp_path, capture):
     capture = whole(capture, tmp_path)
-    _lines, rules, (interface,) = importing.pf_parts(HEAD + "pass out on em0 proto tcp all flags any no state queue (a, b)\n", options_of("text", addresses={}),
+    rules, (interface,) = importing.pf_parts(HEAD + "pass out on em0 proto tcp all flags any no state queue (a, b)\n", options_of("text", addresses={}),
                                                      Notes("text"))
     placed = pf_order.placed(interface, rules, Frames(capture))
     bare = {number for number, of in enumerate(placed.of_class, 1) if placed.classes[of] == "b"}
