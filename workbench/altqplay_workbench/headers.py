@@ -22,6 +22,22 @@ COLUMNS = ("family", "protocol", "tos", "src_high", "src_low", "dst_high", "dst_
 class Headers:
     """A column for each of COLUMNS, a row for each frame, or for each of some rows of others."""
 
+    family: numpy.ndarray
+    protocol: numpy.ndarray
+    tos: numpy.ndarray
+    src_high: numpy.ndarray
+    src_low: numpy.ndarray
+    dst_high: numpy.ndarray
+    dst_low: numpy.ndarray
+    sport: numpy.ndarray
+    dport: numpy.ndarray
+    has_ports: numpy.ndarray
+    flags: numpy.ndarray
+    is_bare: numpy.ndarray
+    icmp: numpy.ndarray
+    code: numpy.ndarray
+    ident: numpy.ndarray
+
     def __init__(self, columns):
         self.__dict__.update(columns)
 
