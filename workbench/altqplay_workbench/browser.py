@@ -11,7 +11,8 @@ from .libraries import advice
 
 NAMES = ("chromium", "chromium-browser", "google-chrome")
 WIDTH, SCALE, SECONDS, MOST_HIGH = 1200, 0.8, 60, 20_000
-COLOURS = 48
+BLENDS, GREYS = 4, 15  # in how many steps a colour of a picture goes over into white, and black does
+GREYISH = 60  # the greatest part of a colour less its least, up to which it is a grey
 # Writes the page's height into it.
 MEASURE = "<script>document.documentElement.dataset.high = document.body.getBoundingClientRect().bottom</script>"
 
@@ -24,14 +25,26 @@ def chromium():
     return found
 
 
-def reduced(name):
-    """Leaves a picture with its most frequent colours, where the library for it, Pillow, is there: a third of the bytes."""
+def palette(page):
+    """The colours that a page's style names first, those that are no greys also blended with white, and greys: what edges of letters have."""
+    with open(page, encoding="utf-8") as file:
+        style = re.search(r":root *{[^}]*}", file.read())
+    named = [[int(colour[at:at + 2], 16) for at in (0, 2, 4)] for colour in re.findall("#([0-9a-f]{6})", style[0] if style else "")]
+    blends = [[255 - (255 - part) * share // BLENDS for part in colour]
+              for colour in named if max(colour) - min(colour) > GREYISH for share in range(1, BLENDS)]
+    return named + blends + [[grey] * 3 for grey in range(0, 256, 255 // GREYS)]
+
+
+def reduced(name, colours):
+    """Leaves a picture with some colours, where the library for it, Pillow, is there: a third of the bytes."""
     try:
         from PIL import Image
     except ImportError:
         return
+    table = Image.new("P", (1, 1))
+    table.putpalette([part for colour in colours[:256] for part in colour])
     with Image.open(name) as image:
-        small = image.convert("RGB").quantize(COLOURS, dither=0)
+        small = image.convert("RGB").quantize(palette=table, dither=0)
     small.save(name, optimize=True)
 
 
@@ -65,5 +78,5 @@ def picture(page, name, width=WIDTH):
         _text, fault = called(page, room, words)
         if not os.path.exists(made):
             raise Refused(f"{page}: Chromium drew nothing: {fault[-300:]}")
-        reduced(made)
+        reduced(made, palette(page))
         shutil.copyfile(made, name)

@@ -9,6 +9,7 @@ with the number of the record: nothing is made up.
 import os
 import struct
 from collections import namedtuple
+from functools import lru_cache
 
 from .faults import Refused
 from .packed import opened
@@ -205,23 +206,24 @@ class Frames:
         order, _unit = CLASSIC.get(self.data[:4], (None, 0))
         if order is None or len(self.data) < 24 or struct.unpack_from(order + "I", self.data, 20)[0] & 0xFFFF != ETHERNET:
             raise Refused(f"{name}: not a classic capture of Ethernet; altqwork convert makes one")
-        self.name, self.places, self.captured = name, [], []
+        self.name, self.places = name, []
         self.index(struct.Struct(order + "I").unpack_from)
 
     def index(self, word):
-        """Finds the place of each record."""
-        data, end, at = self.data, len(self.data), 24
-        add_place, add_captured = self.places.append, self.captured.append
-        while at < end:
-            captured = word(data, at + 8)[0] if at + 16 <= end else LONGEST
-            if captured > LONGEST:
-                raise Refused(f"{self.name}: record {len(self.places) + 1} has {captured} bytes captured, more than {LONGEST}")
-            if at + 16 + captured > end:
-                self.is_cut = True
-                return
-            add_place(at)
-            add_captured(captured)
-            at += 16 + captured
+        """Finds the place of each whole record."""
+        data, end, at, places = self.data, len(self.data), 24, self.places
+        add, last = places.append, end - 16
+        while at <= last:
+            add(at)
+            at += 16 + word(data, at + 8)[0]
+        self.captured = [behind - place - 16 for place, behind in zip(places, places[1:] + [at])]
+        if max(self.captured, default=0) > LONGEST:
+            number, captured = next((number, captured) for number, captured in enumerate(self.captured, 1) if captured > LONGEST)
+            raise Refused(f"{self.name}: record {number} has {captured} bytes captured, more than {LONGEST}")
+        if at != end:
+            self.is_cut = True
+        if at > end:
+            del places[-1:], self.captured[-1:]
 
     def __len__(self):
         return len(self.places)
@@ -235,3 +237,15 @@ class Frames:
             for number in numbers:
                 at = self.places[number - 1]
                 file.write(self.data[at:at + 16 + self.captured[number - 1]])
+
+
+@lru_cache(maxsize=1)
+def held_frames(name, _size, _changed):
+    """The frames of a capture of a size, changed at a time."""
+    return Frames(name)
+
+
+def frames_of(name):
+    """The frames of a capture, read once however often they are asked for, as long as the file stays as it is."""
+    about = os.stat(name)
+    return held_frames(name, about.st_size, about.st_mtime_ns)

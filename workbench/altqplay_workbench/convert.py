@@ -14,7 +14,7 @@ import struct
 import tempfile
 from collections import Counter
 
-from .captures import CLASSIC, ETHERNET, LONGEST, Frames, records, write_ethernet
+from .captures import CLASSIC, ETHERNET, LONGEST, frames_of, records, write_ethernet
 from .faults import Refused
 from .links import as_ethernet, name_of, without_pppoe
 from .packed import opened
@@ -52,7 +52,7 @@ def is_playable(name, overhead=0, atm=False):
     order, _unit = CLASSIC.get(head[:4], (None, 0))
     if overhead or atm or is_packed or order is None or len(head) < 24 or struct.unpack_from(order + "I", head, 20)[0] & 0xFFFF != ETHERNET:
         return False
-    frames = Frames(name)
+    frames = frames_of(name)
     has_pppoe = any(without_pppoe(frames.data[at + 16:at + 48]) for at in frames.places) if b"\x88\x64\x11\0" in frames.data else False
     return not frames.is_cut and not has_pppoe
 

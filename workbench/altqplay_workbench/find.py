@@ -232,7 +232,7 @@ class Finder:
 
     def probe(self, place: Optional[int]) -> Probe:
         """A value as it is played."""
-        captures = tuple(map(os.path.abspath, self.args.arrivals))
+        captures = tuple(os.path.abspath(name) for name in self.args.arrivals)
         return Probe(self.config(place), self.name, captures, self.args.seed, self.program, tuple(self.args.wants))
 
     def told(self, place: int) -> str:

@@ -4,78 +4,101 @@ Ports are those of TCP, UDP, UDP-Lite, DCCP and SCTP, in packets that are no lat
 stand between are not passed over. It is for tables: the program's own rules of what flow a frame is of are in docs/reference/FRAMES.md.
 """
 
+from __future__ import annotations
+
 import ipaddress
+from typing import Any
 
 import numpy
-import pandas
+
+from .columns import distinct
 
 TAGS = (0x8100, 0x88A8, 0x9100)
+IPV4, IPV6 = 0x0800, 0x86DD
 WITH_PORTS = (6, 17, 33, 132, 136)
 NAMES = {1: "icmp", 6: "tcp", 17: "udp", 47: "gre", 50: "esp", 58: "icmp6", 132: "sctp"}
+WORD = 8
+# By how many bytes of a word were captured, its first ones: a mask of these.
+KEPT = numpy.array([2**64 - 2 ** (8 * (WORD - size)) for size in range(WORD + 1)], dtype=numpy.uint64)
 
 
 class Heads:
     """The captured bytes of many frames; 0 behind the end of what was captured."""
 
-    def __init__(self, frames):
-        self.bytes = numpy.frombuffer(frames.data, dtype=numpy.uint8)
+    def __init__(self, frames: Any) -> None:
         self.at = numpy.array(frames.places, dtype=numpy.int64) + 16
         self.captured = numpy.array(frames.captured, dtype=numpy.int64)
+        self.last = len(frames.data) - WORD
+        self.words: numpy.ndarray = numpy.ndarray(self.last + 1, dtype=">u8", buffer=frames.data, strides=(1,))
 
-    def byte(self, offset):
+    def word(self, offset: Any, size: int = 2) -> numpy.ndarray:
+        """Some bytes of each frame, at most eight, from an offset on, one for all or one each, the greatest first."""
+        places = self.at + offset
+        starts = numpy.minimum(places, self.last)
+        found = self.words[starts].astype(numpy.uint64)
+        if (places > self.last).any():
+            found <<= (8 * numpy.clip(places - starts, 0, WORD - 1)).astype(numpy.uint64)
+        found &= KEPT[numpy.clip(self.captured - offset, 0, WORD)]
+        return found >> numpy.uint64(8 * (WORD - size))
+
+    def byte(self, offset: Any) -> numpy.ndarray:
         """The byte of each frame at an offset, one for all or one each."""
-        is_there = offset < self.captured
-        return numpy.where(is_there, self.bytes[numpy.where(is_there, self.at + offset, 0)], 0).astype(numpy.uint64)
-
-    def word(self, offset, size=2):
-        """Some bytes of each frame from an offset on, the greatest first."""
-        found = numpy.zeros(len(self.at), dtype=numpy.uint64)
-        for n in range(size):
-            found = found << numpy.uint64(8) | self.byte(offset + n)
-        return found
+        return self.word(offset, 1)
 
 
-def columns(heads):
-    """What tells a flow, a column each: type, protocol, both addresses in halves, both ports."""
+def columns(heads: Heads) -> list[numpy.ndarray]:
+    """What tells a flow, in columns: type, protocol and both ports as one number, and the addresses, of IPv4 both in the first."""
     base = numpy.full(len(heads.at), 12, dtype=numpy.int64)
+    kind = heads.word(base)
     for _tag in range(2):
-        base = numpy.where(numpy.isin(heads.word(base), TAGS), base + 4, base)
-    kind, ip = heads.word(base), base + 2
-    is_4, is_6 = kind == 0x0800, kind == 0x86DD
-    protocol = numpy.where(is_4, heads.byte(ip + 9), numpy.where(is_6, heads.byte(ip + 6), 0))
-    ports = numpy.where(is_6, ip + 40, ip + 4 * (heads.byte(ip) & numpy.uint64(15)).astype(numpy.int64))
+        is_tag = numpy.isin(kind, TAGS)
+        if is_tag.any():
+            base += 4 * is_tag
+            kind = heads.word(base)
+    ip, is_4, is_6 = base + 2, kind == IPV4, kind == IPV6
+    protocol = heads.word(ip + numpy.where(is_6, 6, 9), 1) * (is_4 | is_6)
+    ports = ip + numpy.where(is_6, 40, 4 * (heads.word(ip, 1).astype(numpy.int64) & 15))
     is_first = is_6 | (heads.word(ip + 6) & numpy.uint64(0x1FFF) == 0)
     has_ports = (is_4 | is_6) & is_first & numpy.isin(protocol, WITH_PORTS)
-    found = [kind, protocol]
-    for at_4, at_6 in ((12, 8), (16, 24)):
-        low = numpy.where(is_4, heads.word(ip + at_4, 4), 0)
-        has_6 = is_6.any()
-        found.append(numpy.where(is_6, heads.word(ip + at_6, 8), 0) if has_6 else low * numpy.uint64(0))
-        found.append(numpy.where(is_6, heads.word(ip + at_6 + 8, 8), low) if has_6 else low)
-    return found + [numpy.where(has_ports, heads.word(ports + offset), 0) for offset in (0, 2)]
+    found = [kind << numpy.uint64(40) | protocol << numpy.uint64(32) | heads.word(ports, 4) * has_ports,
+             heads.word(ip + numpy.where(is_6, 8, 12), WORD) * (is_4 | is_6)]
+    return found + [heads.word(ip + offset, WORD) * is_6 for offset in (16, 24, 32)] if is_6.any() else found
 
 
-def named(kind, protocol, source, source_low, target, target_low, source_port, target_port):
-    """A flow in words."""
-    if kind not in (0x0800, 0x86DD):
+def ends(kind: int, addresses: list[int]) -> list[str]:
+    """The source and the target of a flow, of its columns of addresses."""
+    if kind == IPV4:
+        return [str(ipaddress.IPv4Address(address)) for address in (addresses[0] >> 32, addresses[0] & 0xFFFFFFFF)]
+    return [str(ipaddress.IPv6Address(addresses[place] << 64 | addresses[place + 1])) for place in (0, 2)]
+
+
+def named(head: int, *addresses: int) -> str:
+    """A flow in words, of its columns."""
+    kind, protocol, ports = head >> 40, head >> 32 & 0xFF, (head >> 16 & 0xFFFF, head & 0xFFFF)
+    if kind not in (IPV4, IPV6):
         return f"type {kind:04x}"
-    address = ipaddress.IPv4Address if kind == 0x0800 else ipaddress.IPv6Address
-    ends = []
-    for high, low, port in ((source, source_low, source_port), (target, target_low, target_port)):
-        text = str(address(high << 64 | low))
-        ends.append(f"[{text}]:{port}" if port and kind == 0x86DD else f"{text}:{port}" if port else text)
-    return f"{NAMES.get(protocol, f'protocol {protocol}')} {ends[0]} > {ends[1]}"
+    told = [f"[{text}]:{port}" if port and kind == IPV6 else f"{text}:{port}" if port else text for text, port in zip(ends(kind, list(addresses)), ports)]
+    return f"{NAMES.get(protocol, f'protocol {protocol}')} {told[0]} > {told[1]}"
+
+
+def numbered(codes: numpy.ndarray) -> tuple[numpy.ndarray, numpy.ndarray]:
+    """Codes below a number as others, which count up in the order in which they come first, and where each comes first."""
+    first = numpy.full(int(codes.max(initial=-1)) + 1, len(codes), dtype=numpy.int64)
+    first[codes[::-1]] = numpy.arange(len(codes))[::-1]
+    order = numpy.argsort(first, kind="stable")[:int((first < len(codes)).sum())]
+    places = numpy.zeros(len(first), dtype=numpy.int64)
+    places[order] = numpy.arange(len(order))
+    return places[codes], first[order]
 
 
 class Flows:
     """The flow of each record of a capture: `of[n - 1]` is that of packet n, a place of `names`."""
 
-    def __init__(self, frames):
-        found = columns(Heads(frames)) if len(frames) else [numpy.zeros(0, dtype=numpy.uint64)] * 8
-        self.of = numpy.zeros(len(frames), dtype=numpy.int64)
+    def __init__(self, frames: Any) -> None:
+        found = columns(Heads(frames)) if len(frames) else []
+        codes = numpy.zeros(len(frames), dtype=numpy.int64)
         for values in found:
-            codes, kinds = pandas.factorize(values)
-            self.of = pandas.factorize(self.of * max(len(kinds), 1) + codes)[0]
-        first = numpy.zeros(int(self.of.max()) + 1 if len(frames) else 0, dtype=numpy.int64)
-        first[self.of[::-1]] = numpy.arange(len(frames))[::-1]
+            kinds, own = distinct(values)
+            codes = distinct(codes * len(kinds) + own)[1]
+        self.of, first = numbered(codes)
         self.names = [named(*(int(values[place]) for values in found)) for place in first.tolist()]

@@ -1,13 +1,15 @@
-"""How far the shares of sibling classes of HFSC lay apart, over time, from the fates of a play: `altqplay shares`, seen while it happens.
+"""How the sibling classes of HFSC shared the link, and how far their shares lay apart over time, from the fates of a play:
+`altqplay shares`, seen while it happens.
 
     altqwork gap --config altq.conf --fates fates.csv
     altqwork gap --config altq.conf --fates fates.csv --pair a b --rows gap.csv --picture gap.svg
 
-A stretch is a part of the play in which packets of both siblings, or below them, wait after each event. With the rates r1 and r2 of two
-linear link-sharing curves and U1 and U2, what they were sent in a stretch, the gap is the greatest |U1/r1 - U2/r2|, in nanoseconds, over all
-stretches (docs/teaching/FAIRNESS.md). For each pair of siblings the gap is told with its bound, and with the moments at which the stretch begins and
-ends that has it. --rows writes, for each event of a stretch, the greatest gap of the stretches that end with it, and --picture draws these over
-time, with the bound as a line. The exit status is 0. It needs no library.
+For each pair of siblings with linear link-sharing curves it says which part of what the two were sent while both waited each got, and
+which part is its share. A stretch is a part of the play in which packets of both siblings, or below them, wait after each event. With
+the rates r1 and r2 of the two and U1 and U2, what they were sent in a stretch, the gap is the greatest time |U1/r1 - U2/r2| over all
+stretches (docs/teaching/FAIRNESS.md). It is told with its bound, and with the moments after the first arrival at which the stretch begins and
+ends that has it. --rows writes, for each event of a stretch, the greatest gap of the stretches that end with it, in nanoseconds, and
+--picture draws these over time, with the bound as a line. The exit status is 0. It needs no library.
 """
 
 import csv
@@ -17,11 +19,12 @@ from .conf import read_conf
 from .faults import Refused
 from .gap_picture import picture
 from .play import add_program
-from .rows import fate_rows
+from .rows import fate_rows, place
+from .texts import Times, add_times
 from .written import new_file
 
 NAME = "gap"
-HELP = "how far the shares of sibling classes lay apart, over time"
+HELP = "how sibling classes shared the link, and how far their shares lay apart over time"
 BYTE = 8 * 10**9  # units, of which a rate of r bits per second gives r in a nanosecond
 
 # The greatest gap of a pair in nanoseconds, and the moments between which it came about; None where no stretch has one.
@@ -36,6 +39,17 @@ def add_arguments(parser):
     parser.add_argument("--picture", metavar="FILE", help="draws the gap over time, as SVG")
     parser.add_argument("--bound", type=int, metavar="N", help="the line of the picture, where the pair has no bound")
     add_program(parser)
+    add_times(parser)
+
+
+def fates_of(name, interface):
+    """The fates of a file, in its order. `Refused` where one is of a class that the interface does not have."""
+    found, known = [], interface.classes or ("default",)
+    for row, fate in enumerate(fate_rows(name), 2):
+        if fate.name not in known:
+            raise Refused(f"{name}: {place(row)}: {fate.name} is no class of {interface.name}")
+        found.append(fate)
+    return found
 
 
 def path(interface, name):
@@ -72,8 +86,8 @@ def events(fates):
     """What happens in a play, in order: a kept packet comes, or one starts. What comes as another starts comes first."""
     sent = [fate for fate in fates if fate.start is not None]
     come = [(fate.arrival, 0, fate.number, fate) for fate in sent]
-    found = come + [(fate.start, 1, place, fate) for place, fate in enumerate(sent)]
-    return [(at, is_start == 1, fate) for at, is_start, _place, fate in sorted(found, key=lambda event: event[:3])]
+    found = come + [(fate.start, 1, at, fate) for at, fate in enumerate(sent)]
+    return [(at, is_start == 1, fate) for at, is_start, _order, fate in sorted(found, key=lambda event: event[:3])]
 
 
 def stretches(interface, fates, pair):
@@ -127,6 +141,49 @@ def line(interface, fates, pair, longest):
     return f"{pair[0]} {pair[1]} gap {most.gap} bound {'none' if limit is None else limit}", most if most.gap else None
 
 
+def sent_while_both_wait(interface, fates, pair):
+    """The bytes of each of a pair that were sent while packets of both waited, with the packet that is sent."""
+    waiting, found = Counter(), [0, 0]
+    for _at, is_start, fate in events(fates):
+        above = list(path(interface, fate.name))
+        if is_start and all(waiting[name] for name in pair):
+            for number, name in enumerate(pair):
+                found[number] += fate.length if name in above else 0
+        for name in above:
+            waiting[name] += -1 if is_start else 1
+    return found
+
+
+def percent(part, whole):
+    """A part as a whole number of hundredths, half a one rounded up."""
+    return f"{(200 * part + whole) // (2 * whole)} %"
+
+
+def sentence(interface, fates, pair):
+    """How a pair shared the link, in a sentence."""
+    sent, rates = sent_while_both_wait(interface, fates, pair), [rate(interface, name) for name in pair]
+    if not sum(sent):
+        return "they never waited at one time"
+    told_of = f"while both waited, {pair[0]} got {percent(sent[0], sum(sent))} of what the two were sent"
+    return told_of + ("; one of their curves is bent, so neither has one share" if None in rates else f"; its share is {percent(rates[0], sum(rates))}")
+
+
+def why_unbound(interface):
+    """Why there is no bound on the gaps of an interface."""
+    has_real = any(interface.promised(name) for name in interface.classes)
+    return "no bound, since " + ("real time goes before shares" if has_real else "an upper limit may hold a class back")
+
+
+def told(interface, fates, pair, longest, times):
+    """The lines on a pair."""
+    lines = [f"{pair[0]} and {pair[1]}: {sentence(interface, fates, pair)}"]
+    if None in (rate(interface, pair[0]), rate(interface, pair[1])):
+        return lines
+    most, limit, first = greatest(interface, fates, pair), bound(interface, pair[0], longest), min((fate.arrival for fate in fates), default=0)
+    text = f"  gap {times.text(most.gap)}, " + (why_unbound(interface) if limit is None else f"bound {times.text(limit)}")
+    return lines + [text + (f", from {times.number(most.first - first)} to {times.text(most.last - first)}" if most.gap else "")]
+
+
 def write_rows(name, interface, found, pair):
     """Writes the gap over time."""
     with new_file(name, "w", newline="", encoding="ascii") as file:
@@ -147,11 +204,12 @@ def pair_of(args, interface):
 
 def run(args):
     interface = read_conf(args.config, args.interface, args.program)
-    fates = list(fate_rows(args.fates))
+    fates, times = fates_of(args.fates, interface), Times(args.ns)
     longest = longest_of(fates)
+    if not pairs(interface):
+        print(f"{interface.name}: no two classes of HFSC have one parent")
     for pair in pairs(interface):
-        text, most = line(interface, fates, pair, longest)
-        print(text + (f", from {most.first} to {most.last}" if most else ""))
+        print("\n".join(told(interface, fates, pair, longest, times)))
     if args.rows or args.picture:
         pair = pair_of(args, interface)
         found = stretches(interface, fates, pair)

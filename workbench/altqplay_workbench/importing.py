@@ -1,6 +1,6 @@
 """Makes an altq.conf of the queues of pf.conf (FreeBSD, pfSense) or of tc (Linux).
 
-FILE is a pf.conf(5) with altq and queue lines, or pfSense's /tmp/rules.debug; or a script of tc(8) commands, or what
+FILE is a pf.conf(5) with altq and queue lines, pfSense's /tmp/rules.debug, or its config.xml; or a script of tc(8) commands, or what
 `tc qdisc show`, `tc -d class show` and `tc filter show` print, one behind the other. Of tc hfsc is read, with u32, flower
 and matchall. What has no equivalent, or means something else here, is a comment at the head of the altq.conf with its line
 and word; docs/operators/PF-TC.md has the table. What has an effect that the altq.conf does not have is counted in the last line. The exit
@@ -14,9 +14,11 @@ from fractions import Fraction
 
 from . import pf_filters, pf_queues, pf_rules, play, tc_classes, tc_filters
 from .altq_text import Notes, try_all, text_of
+from .asked import entry_of
 from .config_kinds import NAMES, kind_of
 from .faults import Missing, Refused
 from .pf_words import statements
+from .pfsense_xml import pf_lines
 from .printable import printable
 from .tc_words import commands
 from .written import new_file
@@ -27,12 +29,14 @@ HAS_EFFECT = 3
 
 
 def add_arguments(parser):
-    parser.add_argument("file", help="pf.conf, or lines of tc; - is standard input")
-    parser.add_argument("--as", dest="kind", choices=["pf", "tc"], help="what FILE is, where its words do not tell")
+    parser.add_argument("file", help="pf.conf, config.xml of pfSense, or lines of tc; - is standard input")
+    parser.add_argument("--as", dest="kind", choices=["pf", "pfsense", "tc"], help="what FILE is, where its words do not tell")
     parser.add_argument("--to", metavar="CONF", help="the altq.conf to write; else it is printed")
     parser.add_argument("--interface", metavar="NAME", help="the device of what tc shows without one")
     parser.add_argument("--bandwidth", metavar="RATE", help="the link's bandwidth where FILE does not say it, as 10mbit or 10Mb")
     parser.add_argument("--default", metavar="CLASS", help="the default class where FILE names none")
+    parser.add_argument("--address", action="append", default=[], metavar="NAME=ADDRESS[,..]",
+                        help="the addresses of a name that FILE does not tell: of (self), em0:network, a table or a host")
     parser.add_argument("--program", metavar="PATH", help="the program that checks what was made")
 
 
@@ -47,39 +51,69 @@ def rate(text):
 
 
 def kind(text, name):
-    """Whether a text is pf's or tc's."""
+    """Whether a text is pf's, pfSense's or tc's."""
     found = kind_of(text)
     if found is None:
         raise Refused(f"{name}: it has no line of pf.conf or tc that tells what it is: say it by --as pf or --as tc")
-    if found not in ("pf", "tc"):
+    if found == "altq":
         raise Refused(f"{name}: it is {NAMES[found]}, of which nothing is imported")
     return found
 
 
-def imported(text, given, notes):
-    """The interfaces of a text."""
-    if (given.kind or kind(text, notes.name)) == "pf":
-        lines = list(statements(text, notes))
-        interfaces = pf_queues.interfaces_of(lines, given, notes)
-        rules = pf_rules.rules_of(lines, pf_rules.tables_of(lines), notes)
-        pf_rules.settle_groups(rules, interfaces, notes)
-        pf_filters.add_filters(lines, rules, interfaces, notes)
-        return interfaces
+def pf_statements(text, kind, notes):
+    """The statements of a pf.conf, or those that pfSense makes of a config.xml."""
+    if kind != "pfsense":
+        return list(statements(text, notes))
+    text, places = pf_lines(text, notes)
+    return [[word._replace(line=places[word.line]) for word in words] for words in statements(text, notes)]
+
+
+def pf_parts(text, given, notes):
+    """The statements of a pf.conf, its rules, and its interfaces without filters."""
+    lines = pf_statements(text, given.kind, notes)
+    interfaces = pf_queues.interfaces_of(lines, given, notes)
+    rules = pf_rules.rules_of(lines, pf_rules.tables_of(lines, given.addresses), notes)
+    pf_rules.settle_groups(rules, interfaces, notes)
+    return lines, rules, interfaces
+
+
+def tc_parts(text, given, notes):
+    """The devices of lines of tc, and their interfaces without filters."""
     devices = tc_classes.devices_of(commands(text, notes), given, notes)
     if not devices:
         raise Refused(f"{notes.name}: no qdisc, class or filter stands in it")
-    found = []
-    for device in devices:
-        interface = tc_classes.interface_of(device, given, notes)
+    return devices, [tc_classes.interface_of(device, given, notes) for device in devices]
+
+
+def imported(text, given, notes):
+    """The interfaces of a text."""
+    given.kind = given.kind or kind(text, notes.name)
+    if given.kind != "tc":
+        lines, rules, interfaces = pf_parts(text, given, notes)
+        pf_filters.add_filters(lines, rules, interfaces, notes)
+        return interfaces
+    devices, interfaces = tc_parts(text, given, notes)
+    for device, interface in zip(devices, interfaces):
         tc_filters.add_filters(device, interface, notes)
-        found.append(interface)
+    return interfaces
+
+
+def addresses_of(words):
+    """The addresses of `--address NAME=ADDRESS[,..]` by name."""
+    found = {}
+    for word in words:
+        name, _, texts = word.partition("=")
+        entries = [entry_of(text) for text in texts.split(",")]
+        if None in entries or not name:
+            raise Refused(f"--address {word}: NAME=ADDRESS[,..] is wanted, as (self)=10.0.0.1 or <phones>=10.1.0.0/16")
+        found[name] = entries
     return found
 
 
 def conf_of(text, given):
     """The altq.conf of a text, with its interfaces and its notes."""
     notes = Notes(given.file)
-    given.bandwidth = rate(given.bandwidth)
+    given.bandwidth, given.addresses = rate(given.bandwidth), addresses_of(given.address)
     interfaces = imported(text, given, notes)
     try_all(interfaces, notes)
     return text_of(interfaces, notes), interfaces, notes

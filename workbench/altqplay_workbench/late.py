@@ -19,6 +19,7 @@ import csv
 import numpy
 
 from . import plays, wants
+from .delays import ranks
 from .faults import Refused
 from .flows import Flows
 from .texts import Times, add_times, aligned
@@ -27,8 +28,7 @@ from .written import new_file
 NAME = "late"
 HELP = "each packet's due moment, by how much it was missed, delays, and what was dropped"
 SHOWN = 10
-RANKS = (("median", 50), ("99 in 100", 99))
-DELAYS = [*(name for name, _parts in RANKS), "greatest"]
+DELAYS = ["median", "99 in 100", "greatest"]
 LATENESS = ["due", "missed", "late", "worst"]
 TIMES = {*DELAYS, "least", "worst"}  # the columns that are times
 
@@ -51,19 +51,10 @@ def lateness(side, own):
     return [len(missed), int((missed > 0).sum()), int(side.is_late[own].sum()), int(missed.max())]
 
 
-def ranks(values):
-    """The least of some delays, those that so many of a hundred do not pass, and the greatest; None each where there is no delay."""
-    if not len(values):
-        return [None] * (len(RANKS) + 2)
-    places = [0, *(-(-parts * len(values) // 100) - 1 for _name, parts in RANKS), len(values) - 1]
-    ranked = numpy.partition(values, sorted(set(places)))
-    return [int(ranked[place]) for place in places]
-
-
 def delays(side, own):
-    """The delays by rank of the packets sent at some places of a play."""
+    """The least delay of the packets sent at some places of a play, those by rank, and the greatest; None each where none is sent."""
     sent = own[side.is_sent[own]]
-    return ranks((side.end - side.arrival)[sent])
+    return ranks(side.end[sent] - side.arrival[sent])
 
 
 def counts(side, own):
@@ -180,13 +171,13 @@ def is_well(sides, verdicts):
 
 
 def run(args):
-    if args.capture and args.arrivals is None:
+    if args.capture and not plays.captures_of(args):
         raise Refused("--capture needs the capture of the arrivals")
     times = Times(args.ns)
     with plays.Question(args) as question:
         sides = question.sides
         verdicts = wants.of_sides(args.wants, sides)
-        print("\n".join(question.told + [heading(side, times) for side in sides]))
+        print("\n".join(question.told + question.missing + [heading(side, times) for side in sides]))
         flows = flow_table(sides, Flows(question.frames), args.flows, times) if question.frames else []
         print("\n".join(aligned(class_table(sides, times) + flows) + wants.lines([side.label for side in sides], verdicts, times)))
         if args.rows:

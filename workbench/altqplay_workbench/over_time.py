@@ -8,7 +8,7 @@ from __future__ import annotations
 
 import html as markup
 import math
-from dataclasses import dataclass, field
+from dataclasses import dataclass
 from typing import Optional, Sequence
 
 HIGH = 200  # units of a picture's height
@@ -27,7 +27,7 @@ class Picture:
     plays: Sequence[Values]
     drops: Sequence[Sequence[int]] = ()
     wants: Sequence[tuple[float, str]] = ()
-    shown: str = field(default="{:,.3g}")
+    shown: str = "{:.3f}"
 
 
 def nice(span: float, most: int) -> float:
@@ -70,8 +70,16 @@ def area_path(values: Values, top: float) -> str:
 
 
 def drops_path(counts: Sequence[int]) -> str:
-    """A tick in each step with a drop."""
-    return "".join(f"M{x}.5 0V{STRIP}" for x, count in enumerate(counts) if count)
+    """A mark over the steps with a drop; steps side by side have one."""
+    parts: list[str] = []
+    begin = None
+    for x, count in enumerate([*counts, 0]):
+        if count and begin is None:
+            begin = x
+        elif not count and begin is not None:
+            parts.append(f"M{begin} 0H{x}V{STRIP}H{begin}Z")
+            begin = None
+    return "".join(parts)
 
 
 def greatest(picture: Picture) -> float:

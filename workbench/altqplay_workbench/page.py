@@ -10,10 +10,12 @@ import os
 from typing import Any, Iterable, Optional, Sequence
 
 from . import late, over_time, plays, series, summary, wants
+from .printable import printable
 from .rows import DROPPED
 from .texts import Times
 
 STYLE = os.path.join(os.path.dirname(os.path.abspath(__file__)), "page.css")
+STEPS = 300  # of a picture: as many as a phone has room for
 MOST_DRAWN, MANY = 20, 5  # the most classes that are drawn, and from how many on their pictures are lower
 CLASS_HEAD = ["packets", "sent", *DROPPED, "least", *late.DELAYS]
 FLOW_HEAD = ["packets", "dropped", *late.DELAYS]
@@ -23,30 +25,28 @@ one.open = true; folded.push(one) } }); addEventListener('afterprint', () => { w
 
 
 def said(text: str) -> str:
-    """A text as HTML, where what cannot be printed is a question mark."""
-    return markup.escape("".join(letter if letter.isprintable() else "?" for letter in text), quote=True)
+    """A text as HTML of printable characters."""
+    return markup.escape(printable(text), quote=True)
 
 
-def verdict_html(row: Sequence[wants.Verdict], labels: Sequence[str], times: Times) -> str:
+def verdict_html(row: Sequence[wants.Verdict], times: Times) -> str:
     """What becomes of a want: its state in each play, and the last verdict in words."""
     last = row[-1]
-    states = " → ".join(verdict.state for verdict in row) if len({verdict.state for verdict in row}) > 1 else last.state
-    told = last.told(times).split(": ", 1)[1]
-    return f'<small>{said(last.want.text)}: <b class="{last.state}">{states}</b>, {said(told)}</small>'
+    states, told = " → ".join(dict.fromkeys(verdict.state for verdict in row)), last.told(times).split(": ", 1)[1]
+    return f'<small>{said(last.want.text.split(" ", 1)[1])}: <b class="{last.state}">{states}</b>, {said(told)}</small>'
 
 
-def class_line(line: summary.Line, labels: Sequence[str], times: Times) -> str:
-    """The line of a class."""
+def class_line(line: summary.Line, times: Times) -> str:
+    """The line of a class. What a change made another is marked as changed, and what is not well by the line's colour."""
     states = [row[-1].state for row in line.verdicts]
     word = line.word or ("" if not states else wants.KEPT if set(states) == {wants.KEPT} else wants.BROKEN)
-    is_bad = line.flags or any(state != wants.KEPT for state in states)
-    shade = "broken" if is_bad and word not in (summary.WORSE, summary.MIXED) else word
-    flags = "".join(f'<small class="flag">{said(flag)}</small>' for flag in line.flags)
-    told = flags + "".join(verdict_html(row, labels, times) for row in line.verdicts)
-    changed = [" changed" if len(set(values)) > 1 else "" for values in (summary.slowest_text(line, times).split(" → "), line.dropped)]
-    return (f'<li class="{shade}" data-of="{said(line.of)}"><span class="of">{said(line.of)}</span>'
-            f'<span class="slowest{changed[0] if "→" in summary.slowest_text(line, times) else ""}">{summary.slowest_text(line, times)}</span>'
-            f'<span class="word">{word}</span><span class="dropped{changed[1]}">{summary.dropped_text(line)}</span><span class="wants">{told}</span></li>')
+    is_well = not line.flags and all(state == wants.KEPT for state in states)
+    slowest, dropped = summary.slowest_text(line, times), summary.dropped_text(line)
+    parts = [("of", line.of), ("slowest" + " changed" * ("→" in slowest), slowest), (f"word {word}", word),
+             ("dropped" + " changed" * ("→" in dropped), dropped)]
+    told = "".join(f'<small class="flag">{said(flag)}</small>' for flag in line.flags) + "".join(verdict_html(row, times) for row in line.verdicts)
+    body = "".join(f'<span class="{shade}">{said(text)}</span>' for shade, text in parts)
+    return f'<li class="{word if is_well else "broken"}" data-of="{said(line.of)}">{body}<span class="wants">{told}</span></li>'
 
 
 def cell(name: str, number: Optional[int], before: Optional[int], is_after: bool, times: Times) -> str:
@@ -103,7 +103,7 @@ def flow_table(sides: Sequence[Any], flows: Any, most: int, times: Times) -> str
 
 def changes(sides: Sequence[Any]) -> str:
     """Which packets of each class became late or are dropped now."""
-    told = [f"{name}: {'; '.join(late.changed(*sides, plays.of_either(sides, name)))}" for name in plays.class_names(sides)]
+    told = [f"{name}: {'; '.join(late.changed(sides[0], sides[1], plays.of_either(sides, name)))}" for name in plays.class_names(sides)]
     return f"<pre>{said_lines(told)}</pre>"
 
 
@@ -140,7 +140,7 @@ class Drawing:
     """The pictures of a page, on one axis of seconds after the first arrival."""
 
     def __init__(self, sides: Sequence[Any], asked: Sequence[wants.Want], part: tuple[int, int]) -> None:
-        self.sides, self.asked, self.steps = sides, asked, series.Steps(*part)
+        self.sides, self.asked, self.steps = sides, asked, series.Steps(*part, STEPS)
         self.names = plays.class_names(sides)
         self.shown = most_packets(sides, self.names)
         origin = min((int(side.arrival.min()) for side in sides if len(side)), default=0)
@@ -162,12 +162,12 @@ class Drawing:
 
     def key(self, times: Times) -> str:
         """What the colours and the steps are."""
-        labels = [side.label for side in self.sides]
-        shades = '<i class="first"></i>before<i class="last"></i>after' if len(labels) == 2 else f'<i class="last"></i>{labels[0]}'
+        shades = f'<i class="first"></i>{self.sides[0].label}<i class="last"></i>{self.sides[1].label}' if len(self.sides) == 2 else ""
         want = '<i class="asked"></i>wanted' if any(want.measure == "delay" for want in self.asked) else ""
         rest = f" Drawn are the {MOST_DRAWN} classes with the most packets." if len(self.shown) < len(self.names) else ""
-        return (f'<p class="key">{shades}{want}</p><p>Seconds after the first arrival, in {self.steps.count:,} steps of {times.text(self.steps.size)}:'
-                f" the greatest delay of the packets that arrive in each, and below it where packets are dropped.{rest}</p>")
+        key = f'<p class="key">{shades}{want}</p>' if shades or want else ""
+        return (f"{key}<p>Seconds after the first arrival. Each of {self.steps.count:,} steps of {times.text(self.steps.size)} shows its greatest delay,"
+                f" and below it where packets are dropped.{rest}</p>")
 
 
 def folded(title: str, body: str) -> str:
@@ -177,12 +177,14 @@ def folded(title: str, body: str) -> str:
 
 def html(question: Any, verdicts: Sequence[Sequence[wants.Verdict]], times: Times, flows: Optional[str], part: tuple[int, int]) -> str:
     """The page of a question, drawn from and to two moments; `flows` is the table of flows, or None."""
-    sides, labels = question.sides, [side.label for side in question.sides]
+    sides = question.sides
     title = " → ".join(os.path.basename(config) for _label, config in question.configs)
-    lines = "".join(class_line(line, labels, times) for line in summary.lines(sides, verdicts))
+    lines = "".join(class_line(line, times) for line in summary.lines(sides, verdicts))
+    compared = f"<p>Worse and better are changes by more than 1 in {summary.CHANGE}.</p>" if len(sides) == 2 else ""
     drawing = Drawing(sides, [row[0].want for row in verdicts], part)
     heads = [f"{label}: {config}: {late.heading(side, times).split(': ', 1)[1]}" for side, (label, config) in zip(sides, question.configs)]
     above = "".join(f"<p>{said(text)}</p>" for text in [*question.told, summary.default_texts(sides) + "."])
+    above += "".join(f'<p class="flag">{said(text)}</p>' for text in question.missing)
     unit = f"<p>Times are in {'nanoseconds' if times.exact else 'milliseconds; a time says its nanoseconds where the mouse rests on it'}.</p>"
     below = [folded("Numbers by class", unit + class_table(sides, times)), folded("Packets that wait, and rates, over time", drawing.loads()),
              folded("Flows that lose most", flows or ""), folded("Packets that became late or are dropped now", changes(sides) if len(sides) == 2 else ""),
@@ -190,6 +192,6 @@ def html(question: Any, verdicts: Sequence[Sequence[wants.Verdict]], times: Time
     with open(STYLE, encoding="ascii") as file:
         style = file.read()
     head = f'<meta charset="utf-8"><meta name="viewport" content="width=device-width, initial-scale=1"><title>altqplay: {said(title)}</title><style>{style}</style>'
-    body = (f'<h1>{said(title)}</h1>\n{above}\n<ul class="classes">{lines}</ul>\n<h2>Delays over time</h2>{drawing.key(times)}\n{drawing.delays()}\n'
+    body = (f'<h1>{said(title)}</h1>\n{above}\n<ul class="classes">{lines}</ul>{compared}\n<h2>Delays over time</h2>{drawing.key(times)}\n{drawing.delays()}\n'
             + "\n".join(below) + f"\n<script>{SCRIPT}</script>")
     return f'<!DOCTYPE html>\n<html lang="en"><head>{head}</head><body>\n{body}\n</body></html>\n'

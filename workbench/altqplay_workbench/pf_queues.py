@@ -287,6 +287,16 @@ def default_class(interface, default, notes):
         notes.refuse(named[1].word, "a second default of this interface")
 
 
+def tell_thresholds(interfaces, notes):
+    """Says that the thresholds of RED are not read from the limit of a queue."""
+    dropping = [one for interface in interfaces for one in interface.classes if one.drop]
+    other = ", ".join(f"{one.name} with qlimit {one.qlimit}" for one in dropping if one.qlimit not in (None, 50))
+    if other:
+        notes.say(f"red, ecn, rio: thresholds do not follow qlimit here ({other}), as those of pf's ALTQ are said to: docs/operators/PF-TC.md", has_effect=True)
+    elif dropping:
+        notes.say("red, ecn, rio: the thresholds are those of docs/reference/QUEUE-RULES.md; pf.conf(5) names none")
+
+
 def interfaces_of(lines, options_given, notes):
     """The interfaces of the statements of a pf.conf."""
     altqs = [altq_line(words, notes) for words in lines if words[0].text == "altq"]
@@ -306,4 +316,5 @@ def interfaces_of(lines, options_given, notes):
         notes.refuse(altqs[0].scheduler, "no interface is left: only cbq and hfsc can be played")
     for interface in found:
         default_class(interface, options_given.default, notes)
+    tell_thresholds(found, notes)
     return found

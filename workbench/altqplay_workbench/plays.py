@@ -10,9 +10,10 @@ from concurrent.futures import ThreadPoolExecutor
 
 import numpy
 
-from .captures import Frames
+from . import importing, operator_inputs
+from .captures import frames_of
 from .conf import read_conf
-from .convert import add_lengths, converted, is_playable
+from .convert import add_lengths
 from .due import BYTE, MOST, due_moments
 from .faults import Refused
 from .play import add_program, play
@@ -105,9 +106,16 @@ def same_arrivals(sides):
 
 def add_arguments(parser):
     """The words that name one play or two."""
-    parser.add_argument("--config", metavar="FILE", help="the configuration of one play")
+    parser.add_argument("--config", metavar="FILE", help="the configuration of one play: an altq.conf, a pf.conf, or lines of tc")
     parser.add_argument("--before", metavar="FILE", help="the configuration before a change")
     parser.add_argument("--after", metavar="FILE", help="the configuration after it")
+    parser.add_argument("--as", dest="kind", choices=["pf", "tc"], help="what the configurations are, where their words do not tell")
+    parser.add_argument("--bandwidth", metavar="RATE", help="the link's bandwidth where a pf.conf or tc does not say it, as 10mbit or 10Mb")
+    parser.add_argument("--default", metavar="CLASS", help="the default class where a pf.conf or tc names none")
+    parser.add_argument("--address", action="append", default=[], metavar="NAME=ADDRESS[,..]",
+                        help="the addresses of a name that a pf.conf does not tell: of (self), em0:network, a table or a host")
+    parser.add_argument("--mark", dest="marks", action="append", default=[], metavar="NAME='PACKETS'",
+                        help="the packets of a class, or with a mark of tc's fwmark, as 10='udp dport 10000-20000'; of several marks the last holds")
     parser.add_argument("--fates", metavar="FILE", action="append", default=[],
                         help="fates of a play that was made, one for each configuration in their order; else the capture is played")
     parser.add_argument("--seed", type=int, default=42, metavar="N", help="the seed of the plays, 42 by default")
@@ -116,50 +124,80 @@ def add_arguments(parser):
     parser.add_argument("--keep", metavar="FOLDER", help="keeps the files of the plays in this folder")
     add_program(parser)
     add_lengths(parser)
-    parser.add_argument("arrivals", nargs="?", help="the capture of the arrivals, of any kind; without it no flows are told")
+    parser.add_argument("--arrivals", dest="captures", action="append", default=[], metavar="CAPTURE",
+                        help="a capture of the arrivals, of any kind; several are merged by their stamps")
+    parser.add_argument("arrivals", nargs="?", help="the same, without a word before it; without a capture no flows are told")
+
+
+def captures_of(args):
+    """The captures of the arrivals that the words name."""
+    return args.captures + ([args.arrivals] if args.arrivals is not None else [])
 
 
 class Question:
-    """The plays that the words name, as `sides`, and the `frames` of the arrivals, or None without a capture.
+    """The plays that the words name, as `sides`, and the `frames` of the arrivals, or None without a capture. `told` says what was
+    done to the capture, `missing` what of a configuration has an effect and is not played.
 
     Use it in a `with`: what was played and converted lies in a folder that is gone after it, unless it is kept.
     """
 
     def __init__(self, args):
         self.args = args
-        self.configs = configs_of(args)
+        self.configs, self.captures = configs_of(args), captures_of(args)
         self.folder = args.keep or tempfile.mkdtemp(prefix="altqwork-")
-        self.told = []
         try:
             os.makedirs(self.folder, exist_ok=True)
-            self.arrivals = self.capture()
+            self.inputs = self.all_inputs()
             with ThreadPoolExecutor() as pool:
                 self.sides = list(pool.map(self.side, range(len(self.configs))))
             same_arrivals(self.sides)
+            self.told = told_of(self.configs, self.inputs)
+            self.missing = [f"{config}: {text}" for (_label, config), one in zip(self.configs, self.inputs)
+                            for text in [one.not_understood()] if text]
+            self.frames = frames_of(self.inputs[0].shown) if self.captures else None
         except BaseException:
             self.close()
             raise
-        self.frames = Frames(self.arrivals) if self.arrivals else None
         if self.frames and len(self.sides[0]) and self.sides[0].number[-1] > len(self.frames):
-            raise Refused(f"{args.arrivals}: {len(self.frames)} records, and packet {self.sides[0].number[-1]} has a fate")
+            raise Refused(f"{', '.join(self.captures)}: {len(self.frames)} records, and packet {self.sides[0].number[-1]} has a fate")
 
-    def capture(self):
-        """The capture that is played: the arrivals, or what they are converted to."""
-        name = self.args.arrivals
-        if name is None or is_playable(name, self.args.overhead, self.args.atm):
-            return name
-        made = os.path.join(self.folder, "arrivals.pcap")
-        self.told = converted(name, made, self.args).told()
+    def all_inputs(self):
+        """What is played of each configuration. The captures are converted once."""
+        args, found = self.args, []
+        for label, config in self.configs:
+            folder = os.path.join(self.folder, label)
+            lengths = {} if found else {"overhead": args.overhead, "atm": args.atm, "snap": args.snap}
+            options = operator_inputs.Options(args.bandwidth, args.default, args.kind, args.address, program=args.program, **lengths)
+            captures = [found[0].shown] if found and self.captures else self.captures
+            if captures:
+                found.append(operator_inputs.prepared(config, args.interface, captures, folder, args.marks, options))
+            else:
+                found.append(operator_inputs.without_captures(config, args.interface, args.marks, options))
+        return found
+
+    def conf_file(self, number, folder):
+        """The altq.conf of a play: the one that was given, or one made of what was given."""
+        config, text = self.configs[number][1], self.inputs[number].conf_text
+        if config != "-" and importing.read(config) == text:
+            return config
+        made = os.path.join(folder, "altq.conf")
+        if config != "-" and os.path.exists(made) and os.path.samefile(made, config):
+            raise Refused(f"{made}: the configuration itself would be written over")
+        with open(made, "w", encoding="utf-8") as file:
+            file.write(text)
         return made
 
     def side(self, number):
         """The play of a configuration: made now, or read."""
-        label, config = self.configs[number]
-        interface = read_conf(config, self.args.interface, self.args.program)
+        label, given = self.configs[number][0], self.inputs[number]
+        folder = os.path.join(self.folder, label)
+        os.makedirs(folder, exist_ok=True)
+        config = self.conf_file(number, folder)
+        interface = read_conf(config, given.interface, self.args.program)
         if self.args.fates:
             fates = self.args.fates[number]
         else:
-            fates = play(config, interface.name, self.arrivals, os.path.join(self.folder, label), self.args.seed, self.args.program).fates
+            fates = play(config, interface.name, given.arrivals, folder, self.args.seed, self.args.program).fates
         return Side(label, interface, read_fates(fates), self.args.allow)
 
     def close(self):
@@ -173,6 +211,13 @@ class Question:
         self.close()
 
 
+def told_of(configs, inputs):
+    """What was done to the captures for the plays: what is said of one alone names it."""
+    first = inputs[0].told
+    alone = [f"{label}: {line}" for (label, _config), one in zip(configs, inputs) for line in one.told if not all(line in other.told for other in inputs)]
+    return [line for line in first if all(line in other.told for other in inputs[1:])] + alone if len(inputs) > 1 else first
+
+
 def configs_of(args):
     """The configurations that the words name, each with its label."""
     if args.config and not (args.before or args.after):
@@ -183,6 +228,6 @@ def configs_of(args):
         raise Refused("name one configuration by --config, or two by --before and --after")
     if args.fates and len(args.fates) != len(found):
         raise Refused(f"{len(args.fates)} fates for {len(found)} configurations")
-    if not args.fates and args.arrivals is None:
+    if not args.fates and not captures_of(args):
         raise Refused("name a capture of the arrivals, or the fates of a play by --fates")
     return found

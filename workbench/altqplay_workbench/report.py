@@ -1,10 +1,13 @@
 """Writes one page that stands alone, HTML with nothing to load: a play by class, or before and after a change.
 
-    altqwork report --before today.conf --after new.conf --want 'voice delay<10ms' arrivals.pcap report.html
-    altqwork report --config today.conf --fates fates.csv report.html
+    altqwork report --config pf.conf --arrivals lan.pcap page.html
+    altqwork report --before today.conf --after new.conf --want 'voice delay<10ms' --arrivals lan.pcap page.html
+    altqwork report --config today.conf --fates fates.csv page.html
+
+A configuration is an altq.conf, a pf.conf or lines of tc, which is imported; a capture may be of any kind, and is converted.
 
 On top a line a class says how long its slowest packet takes, whether that is worse, what is dropped, and whether each --want is
-kept. Below it a picture a class shows the greatest delays and the drops over time, in 1,000 steps, before and after on one axis;
+kept. Below it a picture a class shows the greatest delays and the drops over time, in 300 steps, before and after on one axis;
 --from and --to draw a part in finer steps. What is folded below has all numbers, of the whole play: the delays by rank, the
 lateness (as `late` says it), the packets that wait, the rates, the flows that lose most, the packets that became late or are
 dropped now. What a change made another number is bold. --picture also writes what the page shows as PNG, by Chromium.
@@ -58,9 +61,10 @@ def span(side, begin, end):
     return begin, end
 
 
-def told(args, sides, verdicts, times):
-    """What the command says: how much was played, and what is not well."""
-    lines = [f"{len(sides[0])} packets in {args.page}; {summary.default_texts(sides)}"]
+def told(args, question, verdicts, times):
+    """What the command says: how much was played, what was not understood, and what is not well."""
+    sides = question.sides
+    lines = [f"{len(sides[0])} packets in {args.page}; {summary.default_texts(sides)}", *question.missing]
     for line in summary.lines(sides, verdicts):
         lines += [f"{line.of}: {flag}" for flag in line.flags]
     return lines + wants.lines([side.label for side in sides], verdicts, times)
@@ -79,7 +83,7 @@ def run(args):
         text = page.html(question, verdicts, times, flows, part)
     with new_file(args.page, "w", encoding="utf-8") as file:
         file.write(text)
-    print("\n".join(told(args, sides, verdicts, times)))
+    print("\n".join(told(args, question, verdicts, times)))
     if args.picture:
         browser.picture(args.page, args.picture)
     return 0 if late.is_well(sides, verdicts) else 1

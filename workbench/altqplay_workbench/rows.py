@@ -85,7 +85,7 @@ def path_rows(name):
 
 
 def read_fates(name):
-    """The fates of a file as `columns.Fates`; it needs numpy and pandas. `Refused` names the first row that is none."""
+    """The fates of a file as `columns.Fates`; it needs numpy. `Refused` names the first row that is none."""
     from .columns import read
 
     return read(name)

@@ -7,11 +7,11 @@ WIDE = 10  # steps that a rate is taken over, so that single packets do not hide
 
 
 class Steps:
-    """Moments from `begin` to before `end` in at most 1,000 steps of `size` nanoseconds; the last may reach past the end."""
+    """Moments from `begin` to before `end` in at most so many steps of `size` nanoseconds; the last may reach past the end."""
 
-    def __init__(self, begin, end):
+    def __init__(self, begin, end, most=STEPS):
         self.begin, self.end = begin, end
-        self.size = max(1, -(-(end - begin) // STEPS))
+        self.size = max(1, -(-(end - begin) // most))
         self.count = -(-(end - begin) // self.size)
 
     def edges(self):
@@ -25,10 +25,6 @@ class Steps:
         if has_some.any():
             found[has_some] = numpy.maximum.reduceat(values[:bounds[-1]], bounds[:-1][has_some])
         return found
-
-    def times(self, origin):
-        """The begin of each step, in milliseconds after the origin."""
-        return ((self.begin - origin + numpy.arange(self.count, dtype=numpy.int64) * self.size) / 10**6).tolist()
 
 
 def waiting(side, own, steps):

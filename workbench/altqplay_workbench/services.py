@@ -22,7 +22,7 @@ SERVICES = {name: int(entry.partition(":")[0]) for entry in """
 777:moira-update,moira_update 779:moira-ureg,moira_ureg 783:spamd 853:domain-s 871:supfilesrv 873:rsync 989:ftps-data 990:ftps 992:telnets
 993:imaps 995:pop3s 1080:socks 1093:proofd 1094:rootd 1099:rmiregistry 1127:supfiledbg 1178:skkserv 1194:openvpn 1210:predict 1236:rmtcfg
 1313:xtel 1314:xtelw 1352:lotusnote,lotusnotes 1433:ms-sql-s 1434:ms-sql-m 1524:ingreslock 1645:datametrics,old-radius
-1646:old-radacct,sa-msg-port 1649:kermit 1677:groupwise 1701:l2f,l2tp 1723:pptp 1812:radius 1813:radacct,radius-acct 1935:rtmp
+1646:old-radacct,sa-msg-port 1649:kermit 1677:groupwise 1701:l2f,l2tp 1723:pptp 1812:radius 1813:radacct,radius-acct
 2000:cisco-sccp 2049:nfs,nfsd 2086:gnunet 2101:rtcm-sc104 2102:zephyr-srv 2103:zephyr-clt 2104:zephyr-hm 2119:gsigatekeeper 2121:iprop
 2135:gris 2401:cvspserver 2430:venus 2431:venus-se 2432:codasrv 2433:codasrv-se 2583:mon 2600:zebrasrv 2601:zebra 2602:ripd 2603:ripngd
 2604:ospfd 2605:bgpd 2606:ospf6d 2607:ospfapi 2608:isisd 2628:dict 2792:f5-globalsite 2811:gsiftp 2947:gpsd 3050:gds-db,gds_db

@@ -1,5 +1,5 @@
 """What a play, or a change, means for each class, in one line: how long its slowest packet takes, whether that is worse, and what is
-dropped. The slowest packet and the number of drops are worse or better where they change by more than 1 in 100, and a delay by as much
+dropped. The slowest packet and the number of drops are worse or better where they change by more than 1 in 20, and a delay by as much
 as its line shows, a tenth of a millisecond."""
 
 from __future__ import annotations
@@ -11,7 +11,7 @@ from . import late, plays, wants
 from .texts import Times
 
 WORSE, BETTER, MIXED, SAME = "worse", "better", "mixed", "same"
-CHANGE = 100  # a change of more than one part in so many is told
+CHANGE = 20  # a change of more than one part in so many is told
 TENTH = 100_000  # nanoseconds of the digit that a line shows
 
 
@@ -29,7 +29,7 @@ class Line:
 
 
 def step(first: int, second: int) -> int:
-    """1 where a number grows by more than 1 in 100, -1 where it shrinks so, else 0."""
+    """1 where a number grows by more than 1 in 20, -1 where it shrinks so, else 0."""
     if abs(second - first) * CHANGE <= first:
         return 0
     return 1 if second > first else -1

@@ -8,11 +8,11 @@ or a curve of two slopes as 3M/10/1500K, which is 3M for 10 ms and then 1500K; o
 captures are such as the program reads; altqwork convert makes them.
 
 table.csv in the folder has a row for each run and each class that holds packets, delays in nanoseconds, its last word `ok` or what
-failed. plot.html draws
-the greatest delay and the drops of each class. A sweep that was cut off goes on where it stopped: what is done stands in runs.jsonl,
+failed. With --want, which may be given several times, the table also says of each class what the run makes of what is asked of it,
+and how much of that is not kept. plot.html draws the greatest delay and the drops of each class. A sweep that was cut off goes on where it stopped: what is done stands in runs.jsonl,
 and is made again only where the configuration, the capture, the seed or the program is another. --scheduler HOST:PORT plays by
 dask.distributed in place of this machine's processors: the captures, the program and this package stand at one path on all
-machines then. The exit status is 0 where all runs are done, and 1 where one failed.
+machines then. The exit status is 0 where all runs are done and keep each want, else 1.
 """
 
 import hashlib
@@ -25,12 +25,14 @@ import tempfile
 from collections import namedtuple
 from concurrent.futures import ProcessPoolExecutor, as_completed
 
+from . import wants
 from .conf import interface_named, read_conf
 from .delays import ranks
 from .faults import Missing, Refused
 from .libraries import advice
 from .play import add_program, play, program
 from .rows import DROPPED, read_fates, read_stats
+from .texts import Times
 from .written import new_file
 
 NAME = "sweep"
@@ -38,13 +40,14 @@ HELP = "many configurations, rates, captures and seeds into one table and one pl
 CURVES = ("rt", "ls", "sc", "ul")
 VALUES = ("exactbandwidth", "pbandwidth", "pshare", "priority", "qlimit")
 HEAD = ["config", "settings", "capture", "seed", "class", "packets", "dropped", "median", "of99", "greatest", "answer"]
+ASKED = ["wants", "broken"]  # the columns before the answer where something is asked: what the run makes of it, and how much it breaks
 RANKS = (50, 99, 100)  # of a hundred delays
 FORM = 2  # of what is kept of a run
 COLOURS = ["#0072b2", "#d55e00", "#009e73", "#cc79a7", "#000000", "#56b4e9", "#e69f00"]  # tellable apart by the colour-blind (Okabe and Ito)
 SETTING = re.compile(r"(?:(\S+)\s+)?(\w+)=(\S+)\Z")
 
 # One run of the grid: what is played, and the key by which a sweep that goes on knows it again.
-Run = namedtuple("Run", "config settings text interface capture seed program key")
+Run = namedtuple("Run", "config settings text interface capture seed program wants key")
 
 
 def add_arguments(parser):
@@ -54,6 +57,7 @@ def add_arguments(parser):
     parser.add_argument("--jobs", type=int, metavar="N", help="how many plays at a time; all processors by default")
     parser.add_argument("--scheduler", metavar="HOST:PORT", help="plays on the machines of this scheduler of dask.distributed")
     parser.add_argument("--no-plot", action="store_true", help="makes the table alone")
+    wants.add_wants(parser)
     add_program(parser)
     parser.add_argument("--arrivals", nargs="+", required=True, metavar="CAPTURE", help="the captures")
     parser.add_argument("configs", nargs="+", metavar="CONFIG", help="the configurations")
@@ -126,16 +130,19 @@ def grid(args):
     """All runs, in order."""
     path = os.path.abspath(program(args.program))
     held = {name: digest(name) for name in [*args.arrivals, path]}
-    found = []
+    asked, found = tuple(args.wants), []
     for name in args.configs:
         with open(name, encoding="ascii", errors="replace") as file:
             text = file.read()
         interface = interface_named(name, args.interface)
+        if asked:
+            wants.known(asked, read_conf(name, interface, args.program).classes)
         for settings in settings_of(args.settings):
             made = changed(text, interface, settings, name)
             for capture, seed in itertools.product(args.arrivals, numbers(args.seeds)):
-                key = hashlib.sha256("\0".join([str(FORM), made, interface, held[capture], held[path], str(seed)]).encode()).hexdigest()
-                found.append(Run(name, label(settings), made, interface, os.path.abspath(capture), seed, path, key))
+                parts = [str(FORM), made, interface, held[capture], held[path], str(seed), *(want.text for want in asked)]
+                key = hashlib.sha256("\0".join(parts).encode()).hexdigest()
+                found.append(Run(name, label(settings), made, interface, os.path.abspath(capture), seed, path, asked, key))
     return found
 
 
@@ -145,10 +152,19 @@ def holders(interface, stats):
     return [name for name in stats if name != "*" and (name not in parents or stats[name]["arrived"])]
 
 
-def class_row(name, stats, fates):
-    """The row of a class: packets, drops and delays."""
-    own = ranks(fates.delays()[fates.class_is(name) & fates.is_sent], RANKS)
-    return [name, stats["arrived"], sum(stats[reason] for reason in DROPPED), *("" if delay is None else delay for delay in own), "ok"]
+def class_row(name, stats, fates, asked):
+    """The row of a class: packets, drops, delays, and where something is asked, what becomes of it."""
+    delays = ranks(fates.delays()[fates.class_is(name) & fates.is_sent], RANKS)
+    row = [name, stats["arrived"], sum(stats[reason] for reason in DROPPED), *("" if delay is None else delay for delay in delays)]
+    return row + (asked_columns(name, fates, asked) if asked else []) + ["ok"]
+
+
+def asked_columns(name, fates, asked):
+    """What a class's packets make of what is asked of it, and how much of that they break."""
+    own = fates.class_is(name)
+    verdicts = [wants.judged(want, fates.arrival[own], fates.end[own], fates.length[own], fates.is_sent[own]) for want in asked if want.of == name]
+    told = [f"{verdict.want.text.split(' ', 1)[1]} {verdict.told(Times())}" for verdict in verdicts]
+    return ["; ".join(told), sum(verdict.state != wants.KEPT for verdict in verdicts)]
 
 
 def played(run):
@@ -161,9 +177,10 @@ def played(run):
             interface = read_conf(config, run.interface, run.program)
             files = play(config, run.interface, run.capture, folder, run.seed, run.program)
             stats, fates = read_stats(files.stats), read_fates(files.fates)
-        return [class_row(name, stats[name], fates) for name in holders(interface, stats)]
+        names = dict.fromkeys([*holders(interface, stats), *(want.of for want in run.wants)])
+        return [class_row(name, stats.get(name, dict.fromkeys(["arrived", *DROPPED], 0)), fates, run.wants) for name in names]
     except (Refused, Missing, OSError) as fault:
-        return [["-", "", "", "", "", "", str(fault)]]
+        return [["-", "", "", "", "", "", *(["", ""] if run.wants else []), str(fault)]]
 
 
 def finished(name):
@@ -230,9 +247,10 @@ def quoted(value):
     return '"' + text.replace('"', '""') + '"' if re.search(r'[",\n\r]', text) else text
 
 
-def write_table(name, rows):
+def write_table(name, rows, is_asked):
+    head = [*HEAD[:-1], *(ASKED if is_asked else []), HEAD[-1]]
     with new_file(name, "w", encoding="utf-8") as file:
-        file.writelines(",".join(map(quoted, row)) + "\n" for row in [HEAD, *rows])
+        file.writelines(",".join(map(quoted, row)) + "\n" for row in [head, *rows])
 
 
 def plot(name, rows):
@@ -259,12 +277,13 @@ def run(args):
     os.makedirs(args.into, exist_ok=True)
     found = all_played(args, runs)
     rows = table(runs, found)
-    write_table(os.path.join(args.into, "table.csv"), rows)
+    write_table(os.path.join(args.into, "table.csv"), rows, bool(args.wants))
     failed = sum(row[-1] != "ok" for row in rows)
+    breaking = sum(any(row[-2] for row in found[run.key] if row[-1] == "ok") for run in runs) if args.wants else 0
     if not args.no_plot and failed < len(rows):
         try:
             plot(os.path.join(args.into, "plot.html"), rows)
         except ModuleNotFoundError as fault:
             raise Missing(f"the Python library {fault.name} is not installed: {advice(fault.name)}, or say --no-plot") from None
-    print(f"{os.path.join(args.into, 'table.csv')}: {len(runs)} runs, {failed} failed")
-    return 1 if failed else 0
+    print(f"{os.path.join(args.into, 'table.csv')}: {len(runs)} runs, {failed} failed" + (f", {breaking} break a want" if args.wants else ""))
+    return 1 if failed or breaking else 0

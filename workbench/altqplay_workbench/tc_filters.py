@@ -2,7 +2,7 @@
 
 import ipaddress
 import re
-from dataclasses import dataclass, field
+from dataclasses import dataclass
 from typing import List, Optional
 
 from .altq_text import ANY, Address, Filter, Word, rank
@@ -263,7 +263,7 @@ class Head:
     prio: Optional[Word] = None
     parent: Optional[Word] = None
     owner: Optional[Word] = None
-    odd: List[Odd] = field(default_factory=list)
+    handle: Optional[Word] = None
 
 
 def head_of(words, notes):
@@ -280,7 +280,8 @@ def head_of(words, notes):
     rest = words[at + 1:]
     owner = next((rest[n + 1] for n, word in enumerate(rest[:-1]) if word.text in CLASS_WORDS), None)
     prio = values.get("prio") or values.get("pref") or values.get("preference")
-    return Head(words, words[at], rest, values.get("protocol"), prio, values.get("parent"), owner)
+    number = values.get("handle") or next((rest[n + 1] for n, word in enumerate(rest[:-1]) if word.text == "handle"), None)
+    return Head(words, words[at], rest, values.get("protocol"), prio, values.get("parent"), owner, number)
 
 
 def is_heading(words):

@@ -26,6 +26,21 @@ class Question:
     rows: list[tuple[int, Fate]]
     packets: list[Packet]
     seed: int
+    first_row = 0  # of those that are compared
+
+    @property
+    def dropped(self) -> dict[int, tuple[int, Fate]]:
+        """The rows of the packets that are dropped, by number."""
+        return {fate.number: (row, fate) for row, fate in self.rows if fate.start is None}
+
+    @property
+    def origin(self) -> int:
+        """The first arrival."""
+        return self.packets[0].arrival if self.packets else 0
+
+    def row_of(self, number: int) -> int | None:
+        """The row of a packet."""
+        return next((row for row, fate in self.rows if fate.number == number), None)
 
     def play(self) -> Play:
         """The play by the rules, before its first decision."""
@@ -68,30 +83,35 @@ def packets_of(name: str, rows: list[tuple[int, Fate]], interface: Interface, se
     return found
 
 
-def services_of(name: str, rows: list[tuple[int, Fate]]) -> list[int | None]:
-    """The type of service of each record of a capture, which is refused where it is not that of some fates."""
-    fates, latest, found = {fate.number: fate for _row, fate in rows}, 0, []
+def services_of(name: str, arrivals: list[tuple[int, int]]) -> list[int | None]:
+    """The type of service of each record of a capture, which is refused where it is not that of packets with such arrivals and lengths."""
+    latest, found, count = 0, [], len(arrivals)
     for number, record in enumerate(records(name), 1):
         latest = max(latest, record.at)
         if record.link != ETHERNET:
             raise Refused(f"{name}: record {number} is not of Ethernet; altqwork convert makes such a capture")
         length = max(record.length, len(record.data))
-        if number in fates and (fates[number].arrival, fates[number].length) != (latest, length):
+        if number <= count and arrivals[number - 1] != (latest, length):
             raise Refused(f"{name}: record {number} arrives at {latest} with {length} bytes, and the fates say otherwise")
         found.append(type_of_service(record.data))
-    if len(found) < len(rows):
-        raise Refused(f"{name}: {len(found)} records, and packet {len(rows)} has a fate")
+    if len(found) < count:
+        raise Refused(f"{name}: {len(found)} records, and packet {count} has a fate")
     return found
+
+
+def frames_of(args: Namespace, interface: Interface, arrivals: list[tuple[int, int]]) -> list[int | None] | None:
+    """The type of service of each frame of the capture that the words name, marked where classes have conditioners; None without one.
+    `Refused` where a class looks at frames and there is none."""
+    asks = [given for given in classes_of(interface) if given.queue.rule in ("ecn", "rio")]
+    if asks and args.arrivals is None:
+        raise Refused(f"{args.config}: class {asks[0].name} has {asks[0].queue.rule}, which looks at each frame: name the capture with --arrivals")
+    services = services_of(args.arrivals, arrivals) if args.arrivals else None
+    return marked_services(interface, args.arrivals, services, args.program) if services and interface.meters else services
 
 
 def question(args: Namespace) -> Question:
     """The question of some words."""
     interface = read_conf(args.config, args.interface, args.program)
     rows = fates_of(args.fates)
-    asks = [given for given in classes_of(interface) if given.queue.rule in ("ecn", "rio")]
-    if asks and args.arrivals is None:
-        raise Refused(f"{args.config}: class {asks[0].name} has {asks[0].queue.rule}, which looks at each frame: name the capture with --arrivals")
-    services = services_of(args.arrivals, rows) if args.arrivals else None
-    if services and interface.meters:
-        services = marked_services(interface, args.arrivals, services, args.program)
+    services = frames_of(args, interface, [(fate.arrival, fate.length) for _row, fate in sorted(rows, key=lambda pair: pair[1].number)])
     return Question(args.fates, interface, rows, packets_of(args.fates, rows, interface, services), args.seed)

@@ -5,7 +5,7 @@ from __future__ import annotations
 from collections.abc import Callable
 from dataclasses import dataclass
 
-from .rows import DROPPED, Fate
+from .rows import Fate
 from .rules.play import Offer, Sending
 from .rules.queues import KEPT, MARKED
 from .rules.tree import Member
@@ -47,9 +47,9 @@ class Replay:
 
     def __init__(self, question: Question) -> None:
         self.question, self.play = question, question.play()
-        self.at = 0
+        self.at, self.dropped = question.first_row, question.dropped
+        self.count = 0  # decisions taken
         self.otherwise: Otherwise | None = None
-        self.dropped = {fate.number: (row, fate) for row, fate in question.rows if fate.fate in DROPPED or fate.fate == "dropped"}
 
     def judge(self, decision: Offer | Sending) -> None:
         """Compares a decision with the fates; an offer has its verdict."""
@@ -64,11 +64,12 @@ class Replay:
         if self.otherwise and isinstance(decision, Offer) and decision.verdict.drawn is not None:
             self.otherwise.hint = f"it was decided by a word of seed {self.question.seed}; --seed names another"
 
-    def decisions(self, look: Look) -> None:
-        """Takes decision after decision, up to the first that is otherwise than the fates. `look(decision)` is called before each, and
-        answers what is to be called behind it, or None."""
+    def decisions(self, look: Look, most: int | None = None) -> None:
+        """Takes decision after decision, `most` of them where it is given, up to the first that is otherwise than the fates.
+        `look(decision)` is called before each, and answers what is to be called behind it, or None."""
         play = self.play
-        while self.otherwise is None and (decision := play.next()) is not None:
+        while self.otherwise is None and self.count != most and (decision := play.next()) is not None:
+            self.count += 1
             is_offer = isinstance(decision, Offer)
             if not is_offer:
                 self.judge(decision)

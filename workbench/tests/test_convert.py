@@ -278,12 +278,13 @@ def test_changed_bytes_never_end_but_in_an_answer(altqwork, tmp_path, name):
 
 def test_no_capture_is_written_over(altqwork, program, tmp_path):
     raw = classic(101, [(0, IP, 200)])
-    (tmp_path / "arrivals.pcap").write_bytes(raw)
+    (tmp_path / "play").mkdir()
+    capture = tmp_path / "play" / "arrivals.pcap"
+    capture.write_bytes(raw)
     (tmp_path / "c.conf").write_text("interface if0 hfsc\n")
-    for words in (["convert", tmp_path / "arrivals.pcap", tmp_path / "arrivals.pcap"],
-                  ["late", "--config", tmp_path / "c.conf", "--keep", tmp_path, tmp_path / "arrivals.pcap"]):
+    for words in (["convert", capture, capture], ["late", "--config", tmp_path / "c.conf", "--keep", tmp_path, capture]):
         status, _said, fault = altqwork(*words)
-        assert status == 2 and "written over" in fault and (tmp_path / "arrivals.pcap").read_bytes() == raw
+        assert status == 2 and "written over" in fault and capture.read_bytes() == raw
     (tmp_path / "b.pcap").write_bytes(classic(1, []))
     assert altqwork("late", "--config", tmp_path / "c.conf", "--capture", tmp_path / "b.pcap", tmp_path / "b.pcap")[0] == 2
 

@@ -19,7 +19,7 @@ UNITS = {"K": 10**3, "M": 10**6, "G": 10**9}
 
 def options_of(name, **options):
     """The options of a call."""
-    return argparse.Namespace(**{"file": name, "kind": None, "interface": None, "bandwidth": None, "default": None, **options})
+    return argparse.Namespace(**{"file": name, "kind": None, "interface": None, "bandwidth": None, "default": None, "address": [], **options})
 
 
 def made(text, **options):

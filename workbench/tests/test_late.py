@@ -169,10 +169,10 @@ def test_cbq_has_no_columns_of_due_moments(altqwork, program, tmp_path):
 
 
 def test_a_damaged_archive_is_refused(altqwork, program, tmp_path):
-    """`late` and `report` name a packed capture that is cut or no archive, and end with 2."""
+    """`late` and `report` name a packed capture of which nothing can be read, and end with 2."""
     (tmp_path / "c.conf").write_text("interface if0 hfsc\n")
     whole = gzip.compress(classic(1, [(0, bytes(60), 60)] * 20), mtime=0)
-    for place, damaged in enumerate((whole[:12], whole[:-20], b"\x1f\x8bno archive", whole[:20] + b"\xff" * 30 + whole[50:])):
+    for place, damaged in enumerate((whole[:12], b"\x1f\x8bno archive", whole[:20] + b"\xff" * 30 + whole[50:])):
         (tmp_path / f"{place}.pcap.gz").write_bytes(damaged)
         for words in (["late"], ["report"]):
             status, said, fault = altqwork(*words, "--config", tmp_path / "c.conf", tmp_path / f"{place}.pcap.gz", *(["x.html"] if words == ["report"] else []))
@@ -210,6 +210,32 @@ def test_any_capture_is_played(altqwork, program, tmp_path):
     status, said, _fault = altqwork("late", "--config", tmp_path / "c.conf", "--overhead", "24", data("raw.pcap"))
     assert status == 0 and "5 packets of raw IP\n24 bytes added to each length\nplay: fits" in said
     assert "longest packet sent: 206 bytes" in said  # 140 of data, 8 + 20 of heads, 14 of Ethernet, 24
+
+
+PF = """altq on em0 hfsc bandwidth 8Mb queue { voice rest }
+queue voice bandwidth 10% hfsc(realtime 1Mb)
+queue rest bandwidth 70% hfsc(default)
+pass out on em0 inet proto udp from any to any port 5004 queue voice
+pass out on em0 inet proto udp from any to any user alice queue voice
+"""
+
+
+def test_a_pf_conf_is_imported(altqwork, program, tmp_path):
+    """It has an interface, and what of it was not understood is said."""
+    (tmp_path / "pf.conf").write_text(PF)
+    (tmp_path / "a.pcap").write_bytes(classic(1, [(0, bytes(12) + b"\x08\x00" + udp(port), 214) for port in (5004, 80, 80)]))
+    for words in ([tmp_path / "a.pcap"], ["--arrivals", tmp_path / "a.pcap"]):
+        status, said, _fault = altqwork("late", "--config", tmp_path / "pf.conf", *words)
+        assert status == 0 and "interfaces" not in said and "not understood: line 5 word 12: user" in said
+        assert [line.split()[:3] for line in said.splitlines() if line.startswith("  play")][:2] == [["play", "1", "0"], ["play", "2", "0"]]
+
+
+def test_no_configuration_is_written_over(altqwork, program, tmp_path):
+    (tmp_path / "play").mkdir()
+    (tmp_path / "play" / "altq.conf").write_text(PF)
+    (tmp_path / "a.pcap").write_bytes(classic(1, []))
+    status, _said, fault = altqwork("late", "--config", tmp_path / "play" / "altq.conf", "--keep", tmp_path, tmp_path / "a.pcap")
+    assert status == 2 and "written over" in fault and (tmp_path / "play" / "altq.conf").read_text() == PF
 
 
 def random_play(chance, folder):

@@ -68,3 +68,94 @@ def test_bandwidth_and_overhead(tmp_path):
     made = prepared(str(tmp_path / "x.tc"), None, [data("raw.pcap")], str(tmp_path / "folder"), options=Options(bandwidth="3mbit", overhead=24))
     assert "bandwidth 3M" in made.conf_text and [length for _at, _data, length in frames(made.shown)] == [14 + 24 + 20 + 8 + 100 + 10 * k for k in range(5)]
     assert os.path.dirname(made.arrivals) == str(tmp_path / "folder") and "24 bytes added" in "\n".join(made.told)
+
+
+RTP = PF.replace("port 5004 queue voip", "port 10000:20000 queue voip")
+FRAMES = [(ETHERNET + b"\x08\x00" + udp(port), 1500) for port in (9999, 10000, 20000, 20001)] + [(ETHERNET + b"\x08\x06" + bytes(28), 60)]
+
+
+def written(tmp_path, packets, name="given.pcap", order="<"):
+    (tmp_path / name).write_bytes(classic(1, [(1000 * k, packet, length) for k, (packet, length) in enumerate(packets)], order))
+    return str(tmp_path / name)
+
+
+@pytest.mark.parametrize("order", "<>")
+def test_a_marked_copy_is_played(program, tmp_path, order):
+    """A range of ports that no filter says: each packet has the class of the rule, and of the copy the targets alone are others."""
+    (tmp_path / "pf.conf").write_text(RTP)
+    name = written(tmp_path, FRAMES, order=order)
+    made = prepared(str(tmp_path / "pf.conf"), None, [name], str(tmp_path / "folder"))
+    assert made.not_understood() is None and made.classes == ["rest", "voip", "voip", "rest", "rest"]
+    assert fates(made, tmp_path) == dict(enumerate(made.classes, 1))
+    assert made.shown == made.original == name and made.arrivals != name
+    with open(name, "rb") as given, open(made.arrivals, "rb") as copy:
+        ours, theirs = given.read(), copy.read()
+    places = [place for place in range(len(ours)) if ours[place] != theirs[place]]
+    at, targets = 24, set()
+    for packet, _length in FRAMES[:4]:
+        targets |= set(range(at + 16 + 30, at + 16 + 34))
+        at += 16 + len(packet)
+    assert len(ours) == len(theirs) and set(places) <= targets and places
+    said = "\n".join(made.told)
+    assert "1 frames of neither version of IP cannot be marked" in said and "1 ARP" in said and "marked copy" in said
+
+
+def test_the_type_of_service_is_as_it_was(program, tmp_path):
+    """RIO and ecn read it: the departures of the marked copy have the type of service that the capture has."""
+    (tmp_path / "pf.conf").write_text(RTP)
+    packets = [(ETHERNET + b"\x08\x00" + udp(15000)[:1] + bytes([tos]) + udp(15000)[2:], 1500) for tos in (0, 0x28, 0xB8, 3)]
+    made = prepared(str(tmp_path / "pf.conf"), None, [written(tmp_path, packets)], str(tmp_path / "folder"))
+    assert made.classes == ["voip"] * 4 and [data[15] for _at, data, _length in frames(made.arrivals)] == [0, 0x28, 0xB8, 3]
+
+
+def test_targets_of_the_capture_that_stand_for_classes(program, tmp_path):
+    """A capture that has packets to 240.0.0.0 and 100:: is marked by other addresses."""
+    (tmp_path / "altq.conf").write_text(ALTQ)
+    packets = [(ETHERNET + b"\x08\x00" + udp(80, target=target), 300) for target in ("f0000000", "f0000001", "f0010002", "0a000002")]
+    made = prepared(str(tmp_path / "altq.conf"), None, [written(tmp_path, packets)], str(tmp_path / "folder"), ["voip=dst 10.0.0.2"])
+    assert fates(made, tmp_path) == {1: "rest", 2: "rest", 3: "rest", 4: "voip"}
+
+
+def test_marks_above_an_altq_conf(program, tmp_path):
+    """What a mark names goes to its class, above each filter; the rest keeps its filters."""
+    (tmp_path / "altq.conf").write_text(ALTQ + "filter if0 rest ruleno 4000000000 0 5006 0 0 17\n")
+    packets = [(ETHERNET + b"\x08\x00" + udp(port), 300) for port in (5004, 5005, 5006, 5007)]
+    made = prepared(str(tmp_path / "altq.conf"), "if0", [written(tmp_path, packets)], str(tmp_path / "folder"), ["voip=udp dport 5005-5006"])
+    assert fates(made, tmp_path) == {1: "voip", 2: "voip", 3: "voip", 4: "rest"}
+
+
+@pytest.mark.parametrize("mark, said", [("voip", "NAME='CONDITION"), ("voip=udp dport x", "no port, name or range"), ("voip=", "names no packets"),
+                                        ("none=udp", "no class that holds packets"), ("voip=src 10.0.0.300", "no address"), ("voip=what", "no condition"),
+                                        ("voip=udp dport", "its value is missing"), ("root=udp", "no class that holds packets"), ("voip=not", "is missing")])
+def test_marks_that_are_refused(program, tmp_path, mark, said):
+    (tmp_path / "altq.conf").write_text(ALTQ)
+    with pytest.raises(Refused, match=said):
+        prepared(str(tmp_path / "altq.conf"), None, [written(tmp_path, FRAMES)], str(tmp_path / "folder"), [mark])
+
+
+@pytest.mark.parametrize("mark, named", [
+    ("udp", [1, 2, 3, 4]), ("udp dport 10000-20000", [2, 3]), ("dport 10000:20000,9999", [1, 2, 3]), ("not dport 9999,20001", [2, 3]), ("tcp", []),
+    ("ip src 10.0.0.0/8", [1, 2, 3, 4]), ("host 10.0.0.2 port 40000 dport 9999", [1]), ("ip6", []), ("tos 0 and dport 20000", [3]), ("proto udp dst 10.0.0.1", []),
+    ("src 10.0.0.1-10.0.0.3 not dport 0-15000", [3, 4])])
+def test_selectors(program, tmp_path, mark, named):
+    (tmp_path / "altq.conf").write_text(ALTQ.replace("5004", "1"))
+    made = prepared(str(tmp_path / "altq.conf"), None, [written(tmp_path, FRAMES)], str(tmp_path / "folder"), [f"voip={mark}"])
+    assert [number for number, name in sorted(fates(made, tmp_path).items()) if name == "voip"] == named
+
+
+def test_long_frames_are_said(tmp_path):
+    (tmp_path / "pf.conf").write_text(PF)
+    frame = ETHERNET + b"\x08\x00" + udp(80)
+    tagged = ETHERNET + b"\x81\x00\x00\x07\x08\x00" + udp(80)
+    made = prepared(str(tmp_path / "pf.conf"), None, [written(tmp_path, [(frame, 1514), (frame, 1515), (tagged, 1518), (tagged, 65226)])], str(tmp_path / "folder"))
+    assert "2 frames are longer than 1514 bytes, the longest 65226: receive offload" in "\n".join(made.told)
+
+
+def test_the_machines_own_addresses(program, tmp_path):
+    text = PF + "pass out on em0 inet from (self) to any queue voip\n"
+    (tmp_path / "pf.conf").write_text(text)
+    name = written(tmp_path, [(ETHERNET + b"\x08\x00" + udp(80, source=source), 300) for source in ("0a000001", "0a000002")])
+    made = prepared(str(tmp_path / "pf.conf"), None, [name], str(tmp_path / "folder"))
+    assert "line 5" in made.not_understood() and set(fates(made, tmp_path).values()) == {"rest"}
+    made = prepared(str(tmp_path / "pf.conf"), None, [name], str(tmp_path / "folder"), options=Options(address=["(self)=10.0.0.2"]))
+    assert made.not_understood() is None and fates(made, tmp_path) == {1: "rest", 2: "voip"}

@@ -1,5 +1,6 @@
 """The model of the rules: numbers of the pages, openings by their definition, and random plays of the program."""
 
+import dataclasses
 import random
 from types import SimpleNamespace
 
@@ -147,6 +148,6 @@ def test_one_changed_decision_of_a_random_play(seed, program, tmp_path):
     question = random_plays.replayed(chance, seed, str(tmp_path)).question
     for _ in range(5 if question.rows else 0):
         line, rows = altered(chance, question.rows)
-        replay = Replay(SimpleNamespace(rows=rows, seed=seed, play=question.play))
+        replay = Replay(dataclasses.replace(question, rows=rows))
         replay.decisions(lambda _decision: None)
         assert replay.otherwise.row == line

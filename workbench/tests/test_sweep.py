@@ -90,6 +90,27 @@ def test_table(place):
     assert rows[7] == ["bandwidth=4M", "three.pcap", "2", "b", "3", "0", "4000000", "6000000", "6000000", "ok"]
 
 
+def test_wants(place, capsys):
+    """Two packets of one moment take 1 and 2 ms on 8 Mbit/s, and 2 and 4 ms on 4 Mbit/s, at 8 and 4 Mbit/s; three take 3 and 6 ms."""
+    asked = ["--set", "bandwidth=8M,4M", "--want", "b delay<2.5ms", "--want", "b rate>=8M"]
+    assert main(["sweep", "--no-plot", "--into", str(place / "w"), *asked, str(place / "altq.conf"), "--arrivals", str(place / "two.pcap"), str(place / "three.pcap")]) == 1
+    assert capsys.readouterr().out.endswith("4 runs, 0 failed, 3 break a want\n")
+    with open(place / "w" / "table.csv", newline="", encoding="utf-8") as file:
+        rows = [row for row in csv.DictReader(file) if row["class"] == "b"]
+    assert [(row["wants"], row["broken"], row["answer"]) for row in rows] == [
+        ("delay<2.5ms kept: 2 packets, the slowest 2.000 ms; rate>=8M kept: 8.000 Mbit/s over 2 packets", "0", "ok"),
+        ("delay<2.5ms broken: 1 of 3 packets, the slowest 3.000 ms; rate>=8M kept: 8.000 Mbit/s over 3 packets", "1", "ok"),
+        ("delay<2.5ms broken: 1 of 2 packets, the slowest 4.000 ms; rate>=8M broken: 4.000 Mbit/s over 2 packets", "2", "ok"),
+        ("delay<2.5ms broken: 2 of 3 packets, the slowest 6.000 ms; rate>=8M broken: 4.000 Mbit/s over 3 packets", "2", "ok")]
+
+
+@pytest.mark.parametrize("want, status", [("b drop=0", 0), ("a drop=0", 1), ("root drop=0", 1), ("c drop=0", 2)])
+def test_a_want_is_kept_or_not_tested_or_of_no_class(place, want, status):
+    words = ["sweep", "--no-plot", "--into", str(place / "w"), "--want", want, str(place / "altq.conf"), "--arrivals", str(place / "two.pcap")]
+    assert main(words) == status
+    assert main(words) == status  # and so is what is kept of it
+
+
 def test_drops_are_counted(place):
     """With a limit of 1 the second packet of one moment is dropped, and so is the third."""
     rows = [row for row in swept(place, "--set", "b qlimit=1") if row[4] == "b"]
