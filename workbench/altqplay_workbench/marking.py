@@ -70,4 +70,4 @@ class Marking:
             for n in range(size):
                 data[starts[own] + offset + n] = marks[of_class[own], n]
         with open(name, "wb") as file:
-            file.write(memoryview(data[:self.frames.places[-1] + 16 + self.frames.captured[-1] if len(self.frames) else 24]))
+            data[:self.frames.places[-1] + 16 + self.frames.captured[-1] if len(self.frames) else 24].tofile(file)
