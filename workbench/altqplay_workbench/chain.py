@@ -35,6 +35,7 @@ from .report import span
 from .rows import read_fates
 from .rules.meters import GREEN, Meter, MeterRule
 from .texts import Times, add_times, aligned
+from .written import new_file
 
 NAME = "chain"
 HELP = "two links in a row, or a link and a policer: what each class meets on both"
@@ -227,6 +228,6 @@ def run(args: Namespace) -> int:
         if args.page:
             spans = [span(side, None, None) for side in chain.sides]
             text = page.html(chain, verdicts, times, None, (min(begin for begin, _end in spans), max(end for _begin, end in spans)))
-            with open(args.page, "w", encoding="utf-8") as file:
+            with new_file(args.page, "w", encoding="utf-8") as file:
                 file.write(text)
         return 0 if wants.all_kept(verdicts) else 1
