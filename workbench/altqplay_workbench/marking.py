@@ -55,10 +55,6 @@ class Marking:
         self.frames, self.reading, self.heads = frames, reading, reading.headers()
         self.base = free_base(self.heads)
 
-    def unmarked(self) -> int:
-        """How many frames are of neither version of IP."""
-        return int((self.heads.family == 0).sum())
-
     def write(self, name: str, of_class, names: List[str]) -> None:
         """Writes the marked copy."""
         data = numpy.frombuffer(bytearray(self.frames.data), dtype=numpy.uint8)
