@@ -234,7 +234,7 @@ def notes_of_order(rules: List[Rule], interface: Interface, interfaces: List[Int
     inner = {one.parent for one in interface.classes} if interface.discipline == "hfsc" else set()
     for rule in rules:
         if rule.unknown is not None and (rule.queues or is_asked_with(rule, rules, interface.name)):
-            notes.add(rule.unknown[0], f"{rule.unknown[1]}; so its rule is left out")
+            notes.add(rule.unknown[0], f"{rule.unknown[1]}; so its rule is left out", has_effect=rule.word.text != "block")
         for word in rule.queues if rule.word.text != "block" else []:
             if word.text not in names:
                 notes.add(word, "no queue of the interfaces that are read has this name: its packets go to the default class")

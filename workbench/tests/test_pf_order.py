@@ -67,7 +67,7 @@ def by_udp_of_outside(rules):
     return any(rule.direction == "in" and rule.on in ("", "em0") and rule.proto != "tcp" and rule.action == "pass" for rule in rules)
 
 
-@settings(max_examples=400, deadline=None)
+@settings(max_examples=300, deadline=None)
 @given(strategies.lists(RULE, max_size=7), strategies.lists(CONNECTION, min_size=1, max_size=4))
 def test_classes_are_those_of_a_plain_reading(tmp_path_factory, rules, connections):
     """The packets go through the plain machine; the capture has those alone that come to em0's queue."""
@@ -157,6 +157,12 @@ def test_what_is_not_understood_is_said(tmp_path, text, word):
     found, _placed, notes = classes(text + "\n", [udp(1)], tmp_path)
     assert [note.text for note in notes.all() if note.has_effect] == [word]
     assert found == ["a" if "quick on" in text else "d"]
+
+
+def test_a_block_rule_of_addresses_that_are_not_in_the_file(tmp_path):
+    """What it would stop has its class by the others; that is said, and nothing of the classes is missing by it."""
+    found, _placed, notes = classes("table <bad> persist\nblock quick from <bad>\npass out on em0 all queue a\n", [udp(1)], tmp_path)
+    assert found == ["a"] and [(note.text, note.has_effect) for note in notes.all()] == [("<bad>", False)]
 
 
 def test_older_connections_and_frames_without_ip(tmp_path):
