@@ -28,7 +28,7 @@ COMMANDS = {name: dict(re.findall(r"(--\w+) (\w+)", line)) for name, line in re.
 OPTIONS = {option: value for options in COMMANDS.values() for option, value in options.items()}
 # Of each tool the commands that look at the page, the last of which gives its text.
 TOOLS = {"groff": [["groff", "-man", "-Tutf8", "-ww", PAGE], ["groff", "-man", "-Tutf8", "-ww", "-P-c", "-rHY=0", PAGE]],
-         "mandoc": [["mandoc", "-T", "lint", "-W", "warning", PAGE], ["mandoc", "-T", "utf8", PAGE]]}
+         "mandoc": [["mandoc", "-T", "lint", "-W", "all", PAGE], ["mandoc", "-T", "utf8", PAGE]]}
 # Completes the line $2, whose words as bash parts them follow. Only within a completion does bash have `compopt`.
 SCRIPT = """source "$1"; COMP_LINE=$2 COMP_POINT=${#2} COMP_WORDS=("${@:3}") COMP_CWORD=$(($# - 3))
 compopt() { found=('names of files'); last= head=; }; _altqplay; printf '%s\\n' "${COMPREPLY[@]}" """

@@ -1,10 +1,10 @@
 #!/usr/bin/env python3
-"""Draws the cases of crates/agreed_plays: random plays, with the answers of a program that is given.
+"""Draws the agreed plays, the last part of crates/worked_plays/stdin: random plays, with the answers of a program that is given.
 
-    robust/agreed.py SEED COUNT PROGRAM > crates/agreed_plays/stdin
+    robust/agreed.py SEED COUNT PROGRAM
 
-Those that stand there were drawn with the seed and the count that their first line names, and answered by another program of these rules,
-made by other hands; altqplay answers the same. So a later change is held to what it answers today. Each kind of case comes in turn.
+Those that stand there were drawn with the seed and the count that the part's first line names, and answered by another program of these
+rules, made by other hands; altqplay answers the same. So a later change is held to what it answers today. Each kind of case comes in turn.
 """
 
 import random
@@ -123,7 +123,7 @@ def case(rng, number):
 def main():
     seed, count, program = int(sys.argv[1]), int(sys.argv[2]), sys.argv[3]
     rng = random.Random(seed)
-    lines = [f"# Drawn by robust/agreed.py {seed} {count} PROGRAM. Two programs of these rules, made by different hands, answer so."]
+    lines = [f"# Agreed plays, from here to the end: drawn by robust/agreed.py {seed} {count} PROGRAM. Two programs of these rules, made by different hands, answer so."]
     for number in range(1, count + 1):
         lines += ["", *case(rng, number)]
     for line in answered(program, lines):

@@ -120,7 +120,7 @@ def draw(rng, number, folder):
 
 def of_records(data, change):
     """A classic capture in which each frame of a complete record is what `change` makes of its number and its bytes."""
-    (order, _unit), place, data = read_head(data)[0], 24, bytearray(data)
+    place, data = 24, bytearray(data)
     for number, found in enumerate(read_capture(bytes(data)).arrivals, 1):
         data[place + 16:place + 16 + len(found.data)] = change(number, found.data)
         place += 16 + len(found.data)

@@ -111,7 +111,7 @@ def run(words, folder, seconds=600, environment=None):
     """Runs a command, its words as texts or bytes, where `folder` is the current one, and without standard input.
 
     What it prints goes to files beside the folder. Signals that Python ignores, of a pipe without a reader and of a file
-    that grows too long, end it as they do from a shell, and so does a signal after PROCESSOR_SECONDS. It raises Late where it
+    that grows too long, and an interrupt end it as they do from a shell, and so does a signal after PROCESSOR_SECONDS. It raises Late where it
     has not ended after so many seconds by the clock, which are many, since the machine may have other work.
     """
     printed, complained = folder.rstrip("/") + ".out", folder.rstrip("/") + ".err"
@@ -122,7 +122,7 @@ def run(words, folder, seconds=600, environment=None):
     os.chdir(folder)
     try:
         child = os.posix_spawn(words[0], words, os.environ if environment is None else environment,
-                               file_actions=actions, setsigdef=[signal.SIGPIPE, signal.SIGXFSZ])
+                               file_actions=actions, setsigdef=[signal.SIGPIPE, signal.SIGXFSZ, signal.SIGINT])
     finally:
         os.chdir(here)
     with contextlib.suppress(ProcessLookupError, PermissionError):  # it has ended, or is another user's

@@ -25,6 +25,7 @@ other words.
 import contextlib
 import os
 import shutil
+import signal
 import subprocess
 import sys
 import tempfile
@@ -145,10 +146,12 @@ def checked(room, suffix):
     return Ending(run(words, room.folder), outputs_in(room, NAMES))
 
 
-def verified(room, which=None, name=None, suffix=""):
-    """A `verify` of the files of a whole play, with another name for one of them, or by a shell with `suffix`."""
+def verified(room, which=None, name=None, suffix="", zeros=0):
+    """A `verify` of the files of a whole play, with another name for one of them, or by a shell with `suffix`; beside them is a file of zeros."""
     room.lay()
     os.mkdir(room.path("folder"))
+    store(room.path("zeros"), b"")
+    os.truncate(room.path("zeros"), zeros)
     for output in OUTPUTS:
         store(room.path(NAMES[output]), room.whole[output])
     names = {**NAMES, which: name}
@@ -254,6 +257,24 @@ def cut_while_read(room):
         with open(room.path("pipe"), "rb", buffering=0) as file:
             got.extend(file.read(len(DEPARTURES_HEAD)) + file.read(1))
             os.truncate(room.path(NAMES["arrivals"]), len(room.capture) - 100)
+            got.extend(file.readall())
+
+    found = piped(room, "departures", read)
+    return Ending(found.run, {**found.outputs, "departures": bytes(got)})
+
+
+def interrupted(room):
+    """A play that gets SIGINT while its departures, which go into a named pipe, are written."""
+    room.lay()
+    got = bytearray()
+
+    def read():
+        with open(room.path("pipe"), "rb", buffering=0) as file:
+            got.extend(file.read(len(DEPARTURES_HEAD)) + file.read(1))
+            for name in filter(str.isdigit, os.listdir("/proc")):
+                with contextlib.suppress(OSError):
+                    if os.path.samefile(f"/proc/{name}/exe", room.program):
+                        os.kill(int(name), signal.SIGINT)
             got.extend(file.readall())
 
     found = piped(room, "departures", read)
@@ -386,24 +407,21 @@ QUICK = [
     Try("statistics on a full device", device, ("stats", "/dev/full"), 6, writing("stats"), ("whole", "whole", "nothing")),
     *[Try("an output into a named pipe that is read to its end", into_pipe, (which,), 0, "", WHOLE) for which in OUTPUTS],
     Try("departures into a named pipe whose reader goes away", into_pipe, ("departures", 24), 6, writing("departures"), ("head", "head or front", "empty")),
+    Try("a play that SIGINT ends while it writes", interrupted, (), -2, "", ("front", "head or front", "empty")),
     Try("4 open files at most, one of them the configuration", with_few_descriptors, (4,), 5, reading("arrivals"), UNTOUCHED),
     Try("5, 6 or 7 open files at most", with_few_descriptors, (5,), 6, writing("departures"), after_creation("departures")),
     Try("5, 6 or 7 open files at most", with_few_descriptors, (6,), 6, writing("fates"), after_creation("fates")),
     Try("5, 6 or 7 open files at most", with_few_descriptors, (7,), 6, writing("stats"), after_creation("stats")),
     Try("8 open files at most", with_few_descriptors, (8,), 0, "", WHOLE),
     Try("files that may not grow (`ulimit -f`)", with_short_files, (), -25, "", ("front", "head", "empty")),
-    Try("`check` with standard output closed, or full", checked, (">&-",), 6, "", UNTOUCHED),
-    Try("`check` with standard output closed, or full", checked, (">/dev/full",), 6, "", UNTOUCHED),
+    *[Try("`check` with standard output closed, or full", checked, (suffix,), 6, "", UNTOUCHED) for suffix in (">&-", ">/dev/full")],
     Try("`check` with standard output into a pipe that nobody reads", checked_into_pipe, (), 6, "", UNTOUCHED),
-    Try("a play that is done, with standard output closed, or full", redirected, (">&-",), 0, "", WHOLE),
-    Try("a play that is done, with standard output closed, or full", redirected, (">/dev/full",), 0, "", WHOLE),
+    *[Try("a play that is done, with standard output closed, or full", redirected, (suffix,), 0, "", WHOLE) for suffix in (">&-", ">/dev/full")],
     Try("a play that is done, with all three standard descriptors closed", redirected, ("<&- >&- 2>&-",), 0, "", WHOLE),
     Try("a capture that is cut, with standard output closed, or full", redirected, (">&-", 1), 4, "", ("front", "front", "empty")),
     Try("a capture that is cut, with standard output closed, or full", redirected, (">/dev/full", 1), 4, "", ("front", "front", "empty")),
     Try("a capture that is cut, with all three standard descriptors closed", redirected, ("<&- >&- 2>&-", 1), 4, "", ("front", "front", "empty")),
-    Try("departures that are the arrivals by another name, a link or a symbolic link", by_another_name, ("departures", "name"), 6, writing("departures"), UNTOUCHED),
-    Try("departures that are the arrivals by another name, a link or a symbolic link", by_another_name, ("departures", "link"), 6, writing("departures"), UNTOUCHED),
-    Try("departures that are the arrivals by another name, a link or a symbolic link", by_another_name, ("departures", "symbolic link"), 6, writing("departures"), UNTOUCHED),
+    *[Try("departures that are the arrivals by another name, a link or a symbolic link", by_another_name, ("departures", how), 6, writing("departures"), UNTOUCHED) for how in ("name", "link", "symbolic link")],
     Try("fates that are the arrivals by another name", by_another_name, ("fates", "name"), 6, writing("fates"), after_creation("fates")),
     Try("statistics that are the arrivals by another name", by_another_name, ("stats", "name"), 6, writing("stats"), after_creation("stats")),
     Try("departures that are the configuration by another name", over, ("departures", "config"), 6, writing("departures"), UNTOUCHED),
@@ -419,8 +437,9 @@ QUICK = [
     Try("`verify` of `/dev/null` as fates", verified, ("fates", "/dev/null"), 10, "altqplay: not verified, row 0 kind 1\n", WHOLE),
     Try("`verify` of `/dev/zero` as fates", verified, ("fates", "/dev/zero"), 7, "altqplay: limit 4 reached\n", WHOLE),
     Try("`verify` of `/dev/zero` as departures", verified, ("departures", "/dev/zero"), 7, "altqplay: limit 5 reached\n", WHOLE),
-    Try("`verify` with standard output closed, or full", verified, (None, None, ">&-"), 6, "", WHOLE),
-    Try("`verify` with standard output closed, or full", verified, (None, None, ">/dev/full"), 6, "", WHOLE),
+    Try("`verify` of 2^30 zeros as fates", verified, ("fates", "zeros", "", 1 << 30), 10, "altqplay: not verified, row 0 kind 1\n", WHOLE),
+    Try("`verify` of 2^30 + 1 zeros as fates", verified, ("fates", "zeros", "", (1 << 30) + 1), 7, "altqplay: limit 4 reached\n", WHOLE),
+    *[Try("`verify` with standard output closed, or full", verified, (None, None, suffix), 6, "", WHOLE) for suffix in (">&-", ">/dev/full")],
 ]
 
 DEMANDING = [

@@ -24,7 +24,7 @@ sys.dont_write_bytecode = True
 sys.path.insert(0, os.path.join(os.path.dirname(os.path.dirname(os.path.abspath(__file__))), "workbench"))
 
 from agreed import arrivals, interface  # noqa: E402
-from given import BYTE, Row, link_of, rows_of, verdict  # noqa: E402
+from given import BYTE, link_of, rows_of, verdict  # noqa: E402
 from program import FATES_HEAD, PROGRAM, content, prepare, run, store, words_of  # noqa: E402
 from transcript import Case  # noqa: E402
 

@@ -13,6 +13,7 @@ from functools import lru_cache
 
 from .faults import Refused
 from .packed import opened
+from .written import new_file
 
 ETHERNET = 1
 LONGEST = 262_144
@@ -182,7 +183,7 @@ def write_ethernet(name, packets):
     """Writes records, or what has `at`, `data` and `length`, as a classic capture of Ethernet with stamps in nanoseconds;
     answers their number. `Refused` for a stamp of 2^32 seconds or more, which the format has no place for."""
     count, head = 0, struct.Struct("<IIII")
-    with open(name, "wb") as file:
+    with new_file(name, "wb") as file:
         file.write(HEAD)
         for packet in packets:
             seconds, fraction = divmod(packet.at, 10**9)
@@ -231,7 +232,7 @@ class Frames:
         """Writes the records of some numbers, counted from 1, as they stand here."""
         if os.path.exists(name) and os.path.samefile(name, self.name):
             raise Refused(f"{name}: the capture itself would be written over")
-        with open(name, "wb") as file:
+        with new_file(name, "wb") as file:
             file.write(self.data[:24])
             for number in numbers:
                 at = self.places[number - 1]

@@ -13,6 +13,7 @@ import sys
 from . import __version__
 from .faults import Missing, Refused
 from .libraries import advice
+from .play import usage
 from .printable import Printed
 
 # Each subcommand's module. One whose module is not here is no subcommand.
@@ -42,7 +43,12 @@ def load(name):
     except ModuleNotFoundError as fault:
         if fault.name == path:
             return None
-        raise Missing(f"the Python library {fault.name} is not installed: {advice(fault.name)}") from None
+        raise Missing(lacking(fault)) from None
+
+
+def lacking(fault):
+    """What to say of a library that is not there."""
+    return f"the Python library {fault.name} is not installed: {advice(fault.name)}"
 
 
 def add_command(commands, name, module):
@@ -53,12 +59,19 @@ def add_command(commands, name, module):
         command.set_defaults(run=module.run)
 
 
+def how_to_play():
+    """How the program is called, for the end of the help."""
+    said = usage()
+    return f"the program:\n{said}" if said else ""
+
+
 def parser_of(words):
     """The parser: of the subcommand that the words name alone, or of all of them for help."""
-    parser = argparse.ArgumentParser(prog="altqwork", description="Captures, plays and reports around altqplay.")
+    is_named = bool(words) and words[0] in MODULES
+    parser = argparse.ArgumentParser(prog="altqwork", description="Captures, plays and reports around altqplay.",
+                                     epilog="" if is_named else how_to_play(), formatter_class=argparse.RawDescriptionHelpFormatter)
     parser.add_argument("--version", action="version", version=f"altqwork {__version__}")
     commands = parser.add_subparsers(metavar="SUBCOMMAND", required=True)
-    is_named = bool(words) and words[0] in MODULES
     for name in words[:1] if is_named else MODULES:
         try:
             add_command(commands, name, load(name))
@@ -91,4 +104,7 @@ def answered(words):
         return REFUSED
     except Missing as fault:
         print(f"altqwork: {fault}", file=sys.stderr)
+        return MISSING
+    except ModuleNotFoundError as fault:
+        print(f"altqwork: {lacking(fault)}", file=sys.stderr)
         return MISSING

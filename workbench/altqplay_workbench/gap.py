@@ -21,6 +21,7 @@ from .gap_picture import picture
 from .play import add_program
 from .rows import fate_rows, place
 from .texts import Times, add_times
+from .written import new_file
 
 NAME = "gap"
 HELP = "how sibling classes shared the link, and how far their shares lay apart over time"
@@ -185,7 +186,7 @@ def told(interface, fates, pair, longest, times):
 
 def write_rows(name, interface, found, pair):
     """Writes the gap over time."""
-    with open(name, "w", newline="", encoding="ascii") as file:
+    with new_file(name, "w", newline="", encoding="ascii") as file:
         rows = csv.writer(file, lineterminator="\n")
         rows.writerow(["first", "second", "stretch", "moment", "gap"])
         for number, stretch in enumerate(found, 1):
@@ -217,6 +218,6 @@ def run(args):
         if args.picture:
             drawn = [[(at, gap) for at, gap, _first in gaps(interface, stretch, pair)] for stretch in found]
             own = bound(interface, pair[0], longest)
-            with open(args.picture, "w", encoding="ascii") as file:
+            with new_file(args.picture, "w", encoding="ascii") as file:
                 file.write(picture(f"{pair[0]} and {pair[1]}", drawn, own or args.bound, own is not None))
     return 0

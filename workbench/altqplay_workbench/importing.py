@@ -1,6 +1,6 @@
 """Makes an altq.conf of the queues of pf.conf (FreeBSD, pfSense) or of tc (Linux).
 
-FILE is a pf.conf(5) with altq and queue lines, or pfSense's /tmp/rules.debug; or a script of tc(8) commands, or what
+FILE is a pf.conf(5) with altq and queue lines, pfSense's /tmp/rules.debug, or its config.xml; or a script of tc(8) commands, or what
 `tc qdisc show`, `tc -d class show` and `tc filter show` print, one behind the other. Of tc hfsc is read, with u32, flower
 and matchall. What has no equivalent, or means something else here, is a comment at the head of the altq.conf with its line
 and word; docs/operators/PF-TC.md has the table. What has an effect that the altq.conf does not have is counted in the last line. The exit
@@ -18,8 +18,10 @@ from .asked import entry_of
 from .config_kinds import NAMES, kind_of
 from .faults import Missing, Refused
 from .pf_words import statements
+from .pfsense_xml import pf_lines
 from .printable import printable
 from .tc_words import commands
+from .written import new_file
 
 NAME = "import"
 HELP = "make an altq.conf of the queues of pf.conf or tc"
@@ -27,8 +29,8 @@ HAS_EFFECT = 3
 
 
 def add_arguments(parser):
-    parser.add_argument("file", help="pf.conf, or lines of tc; - is standard input")
-    parser.add_argument("--as", dest="kind", choices=["pf", "tc"], help="what FILE is, where its words do not tell")
+    parser.add_argument("file", help="pf.conf, config.xml of pfSense, or lines of tc; - is standard input")
+    parser.add_argument("--as", dest="kind", choices=["pf", "pfsense", "tc"], help="what FILE is, where its words do not tell")
     parser.add_argument("--to", metavar="CONF", help="the altq.conf to write; else it is printed")
     parser.add_argument("--interface", metavar="NAME", help="the device of what tc shows without one")
     parser.add_argument("--bandwidth", metavar="RATE", help="the link's bandwidth where FILE does not say it, as 10mbit or 10Mb")
@@ -49,18 +51,26 @@ def rate(text):
 
 
 def kind(text, name):
-    """Whether a text is pf's or tc's."""
+    """Whether a text is pf's, pfSense's or tc's."""
     found = kind_of(text)
     if found is None:
         raise Refused(f"{name}: it has no line of pf.conf or tc that tells what it is: say it by --as pf or --as tc")
-    if found not in ("pf", "tc"):
+    if found == "altq":
         raise Refused(f"{name}: it is {NAMES[found]}, of which nothing is imported")
     return found
 
 
+def pf_statements(text, kind, notes):
+    """The statements of a pf.conf, or those that pfSense makes of a config.xml."""
+    if kind != "pfsense":
+        return list(statements(text, notes))
+    text, places = pf_lines(text, notes)
+    return [[word._replace(line=places[word.line]) for word in words] for words in statements(text, notes)]
+
+
 def pf_parts(text, given, notes):
     """The statements of a pf.conf, its rules, and its interfaces without filters."""
-    lines = list(statements(text, notes))
+    lines = pf_statements(text, given.kind, notes)
     interfaces = pf_queues.interfaces_of(lines, given, notes)
     rules = pf_rules.rules_of(lines, pf_rules.tables_of(lines, given.addresses), notes)
     pf_rules.settle_groups(rules, interfaces, notes)
@@ -77,7 +87,8 @@ def tc_parts(text, given, notes):
 
 def imported(text, given, notes):
     """The interfaces of a text."""
-    if (given.kind or kind(text, notes.name)) == "pf":
+    given.kind = given.kind or kind(text, notes.name)
+    if given.kind != "tc":
         lines, rules, interfaces = pf_parts(text, given, notes)
         pf_filters.add_filters(lines, rules, interfaces, notes)
         return interfaces
@@ -135,7 +146,7 @@ def run(args):
     if args.to is None:
         sys.stdout.write(conf)
     else:
-        with open(args.to, "w", encoding="utf-8") as file:
+        with new_file(args.to, "w", encoding="utf-8") as file:
             file.write(conf)
         names = ", ".join(one.name for one in interfaces)
         classes, filters = (sum(len(part) for part in parts) for parts in zip(*((one.classes, one.filters) for one in interfaces)))

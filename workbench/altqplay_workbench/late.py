@@ -23,6 +23,7 @@ from .delays import ranks
 from .faults import Refused
 from .flows import Flows
 from .texts import Times, add_times, aligned
+from .written import new_file
 
 NAME = "late"
 HELP = "each packet's due moment, by how much it was missed, delays, and what was dropped"
@@ -145,7 +146,7 @@ def flow_table(sides, flows, most, times):
 
 def write_rows(name, sides):
     """Writes a row for each packet of each play, times in nanoseconds."""
-    with open(name, "w", newline="", encoding="ascii") as file:
+    with new_file(name, "w", newline="", encoding="ascii") as file:
         rows = csv.writer(file, lineterminator="\n")
         rows.writerow(["play", "number", "class", "arrival", "end", "due", "missed"])
         for side in sides:

@@ -21,6 +21,7 @@ from .play import add_program, play
 from .rows import fate_rows
 from .rules.meters import GREEN, RED, YELLOW, Meter, mark
 from .rules.units import BYTE
+from .written import new_file
 
 NAME = "meter"
 HELP = "the colours that the conditioner of a class gives, and its buckets over time"
@@ -104,9 +105,9 @@ def run(args):
         own = [one.length for one in found if one.colour == colour]
         print(f"{colour:8}{len(own):>9}{sum(own):>13}")
     if args.rows:
-        with open(args.rows, "w", newline="", encoding="ascii") as file:
+        with new_file(args.rows, "w", newline="", encoding="ascii") as file:
             csv.writer(file, lineterminator="\n").writerows(table(rule, found))
     if args.picture:
-        with open(args.picture, "w", encoding="ascii") as file:
+        with new_file(args.picture, "w", encoding="ascii") as file:
             file.write(picture(args.of_class, rule, found))
     return 0

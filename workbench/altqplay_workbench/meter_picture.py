@@ -2,7 +2,7 @@
 
 from itertools import groupby
 
-from .gap_picture import BOTTOM, LEFT, RIGHT, TOP, Axes, framed, stroke, text
+from .gap_picture import RIGHT, TOP, Axes, framed, stroke, text
 from .rules.units import BYTE
 
 DASHES = ' stroke-dasharray="6 4"'

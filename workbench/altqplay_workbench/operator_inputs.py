@@ -18,7 +18,7 @@ from . import importing, pf_filters, tc_filters
 from .altq_text import MOST_FILTERS, Note, Notes, text_of, try_all
 from .captures import LONGEST, Frames, frames_of
 from .conf import interface_named, read_conf
-from .config_kinds import NAMES, kind_of
+from .config_kinds import kind_of
 from .convert import converted, is_playable
 from .faults import Refused
 from .frames_told import told_of_frames
@@ -97,7 +97,8 @@ def read_foreign(config: str, text: str, kind: Optional[str], interface: Optiona
     given = argparse.Namespace(file=config, kind=kind, interface=interface, bandwidth=importing.rate(options.bandwidth), default=options.default,
                                addresses=importing.addresses_of(options.address))
     notes, unsaid = Notes(config), Notes(config)
-    if (kind or importing.kind(text, config)) == "pf":
+    given.kind = kind or importing.kind(text, config)
+    if given.kind != "tc":
         lines, rules, interfaces = importing.pf_parts(text, given, notes)
         one = interfaces[chosen(interfaces, interface, config)]
         bare_text = text_of([one], notes)
@@ -128,8 +129,6 @@ def read_config(config: str, interface: Optional[str], options: Options, marks: 
     kind = options.kind or kind_of(text)
     if kind == "altq":
         return Read(text, interface_named(config, interface), Notes(config), Notes(config), None, text)
-    if kind == "pfsense":
-        raise Refused(f"{config}: it is {NAMES[kind]}, which is not read yet: give /tmp/rules.debug of the same machine")
     return read_foreign(config, text, kind, interface, options, marks)
 
 

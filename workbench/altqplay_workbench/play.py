@@ -5,6 +5,7 @@ import os
 import shutil
 import subprocess
 import sys
+import tempfile
 from collections import namedtuple
 
 from .faults import Missing, Refused
@@ -46,6 +47,15 @@ def execute():
     os.execv(PACKED[0], ["altqplay", *sys.argv[1:]])
 
 
+def usage():
+    """How the program is called, as it says itself on standard error; empty where it is not there."""
+    try:
+        done = subprocess.run([program(), "--help"], stdout=subprocess.DEVNULL, stderr=subprocess.PIPE, stdin=subprocess.DEVNULL, check=False)
+    except (Missing, OSError):
+        return ""
+    return done.stderr.decode("ascii", "replace")
+
+
 def answer(named, words):
     """What the program says to some words. `Refused` with what it said where its status is not 0."""
     done = subprocess.run([program(named), *words], stdout=subprocess.PIPE, stderr=subprocess.PIPE, stdin=subprocess.DEVNULL, check=False)
@@ -62,11 +72,17 @@ def check(config, interface, named=None):
 
 
 def play(config, interface, arrivals, folder, seed=42, named=None):
-    """Plays a capture that the program reads; answers its files, departures.pcap, fates.csv and stats.csv of the folder."""
+    """Plays a capture that the program reads; answers its files, departures.pcap, fates.csv and stats.csv of the folder, which come
+    there when all of them are whole."""
     os.makedirs(folder, exist_ok=True)
-    files = Played(*(os.path.join(folder, name) for name in ("departures.pcap", "fates.csv", "stats.csv")))
-    answer(named, ["play", "--config", config, "--interface", interface, "--arrivals", arrivals, "--departures", files.departures,
-                   "--fates", files.fates, "--stats", files.stats, "--seed", str(seed)])
+    names = ("departures.pcap", "fates.csv", "stats.csv")
+    files = Played(*(os.path.join(folder, name) for name in names))
+    with tempfile.TemporaryDirectory(prefix=".play-", dir=folder) as room:
+        made = Played(*(os.path.join(room, name) for name in names))
+        answer(named, ["play", "--config", config, "--interface", interface, "--arrivals", arrivals, "--departures", made.departures,
+                       "--fates", made.fates, "--stats", made.stats, "--seed", str(seed)])
+        for one, name in zip(made, files):
+            os.replace(one, name)
     return files
 
 

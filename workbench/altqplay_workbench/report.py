@@ -22,6 +22,7 @@ from . import browser, late, page, plays, summary, wants
 from .faults import Refused
 from .flows import Flows
 from .texts import Times, add_times
+from .written import new_file
 
 NAME = "report"
 HELP = "one page that stands alone: a play by class, or before and after a change"
@@ -80,7 +81,7 @@ def run(args):
         part = (min(begin for begin, _end in whole), max(end for _begin, end in whole))
         flows = page.flow_table(sides, Flows(question.frames), args.flows, times) if question.frames else None
         text = page.html(question, verdicts, times, flows, part)
-    with open(args.page, "w", encoding="utf-8") as file:
+    with new_file(args.page, "w", encoding="utf-8") as file:
         file.write(text)
     print("\n".join(told(args, question, verdicts, times)))
     if args.picture:

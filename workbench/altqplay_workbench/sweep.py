@@ -33,6 +33,7 @@ from .libraries import advice
 from .play import add_program, play, program
 from .rows import DROPPED, read_fates, read_stats
 from .texts import Times
+from .written import new_file
 
 NAME = "sweep"
 HELP = "many configurations, rates, captures and seeds into one table and one plot"
@@ -248,7 +249,7 @@ def quoted(value):
 
 def write_table(name, rows, is_asked):
     head = [*HEAD[:-1], *(ASKED if is_asked else []), HEAD[-1]]
-    with open(name, "w", encoding="utf-8") as file:
+    with new_file(name, "w", encoding="utf-8") as file:
         file.writelines(",".join(map(quoted, row)) + "\n" for row in [head, *rows])
 
 
@@ -267,7 +268,8 @@ def plot(name, rows):
         figure.add_trace(graph_objects.Scatter(x=where, y=heights, **style), row=1, col=1)
         figure.add_trace(graph_objects.Scatter(x=where, y=[row[6] for row in own], showlegend=False, **style), row=2, col=1)
     figure.update_layout(template="plotly_white", height=800, title="altqwork sweep")
-    figure.write_html(name, include_plotlyjs=True)
+    with new_file(name, encoding="utf-8") as file:
+        figure.write_html(file, include_plotlyjs=True)
 
 
 def run(args):

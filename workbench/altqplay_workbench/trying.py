@@ -25,6 +25,7 @@ from .faults import Refused
 from .meter import rows_of
 from .play import add_program, answer
 from .rows import FATES_HEAD, fate_rows
+from .written import new_file
 
 NAME = "try"
 HELP = "plays a few bursts by a configuration, and prints the fate of each packet"
@@ -74,10 +75,10 @@ def run(args: Namespace) -> int:
     arrivals = capture(args.bursts)
     config, fates = f"{args.name}.conf", f"{args.name}.csv"
     if args.leaves is not None or args.meter is not None:
-        with open(config, "w", encoding="ascii") as file:
+        with new_file(config, "w", encoding="ascii") as file:
             file.writelines(line + "\n" for line in configuration(args))
     interface = interface_named(config, args.interface)
-    with open(f"{args.name}.pcap", "wb") as capture_file:
+    with new_file(f"{args.name}.pcap", "wb") as capture_file:
         capture_file.write(arrivals)
     answer(args.program, ["play", "--config", config, "--interface", interface, "--seed", args.seed, "--arrivals", f"{args.name}.pcap",
                           "--departures", f"{args.name}-out.pcap", "--fates", fates, "--stats", f"{args.name}-stats.csv"])

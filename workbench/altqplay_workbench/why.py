@@ -30,6 +30,7 @@ from .why_pictures import offer_lines, picture_of, state_lines
 from .texts import Times, add_times
 from .why_replay import Behind, Replay
 from .why_story import Story
+from .written import new_file
 
 NAME = "why"
 LONG = 20_000  # fates
@@ -142,7 +143,7 @@ def of_whole_play(args: Namespace) -> int:
     replay = Replay(asked)
     told = Told(replay, args)
     if args.csv:
-        with open(args.csv, "w", newline="", encoding="ascii") as file:
+        with new_file(args.csv, "w", newline="", encoding="ascii") as file:
             follow(replay, told, Rows(file, replay.play))
     else:
         follow(replay, told, None)

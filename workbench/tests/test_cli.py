@@ -1,11 +1,13 @@
 """The command line: its words, its statuses, and `delays`."""
 
 import os
+import re
 import shutil
 import subprocess
 import sys
 
 import pytest
+from altqplay_workbench import cli
 from conftest import ROOT, classic, example
 
 COMMAND = os.path.join(ROOT, "workbench", "altqwork")
@@ -19,6 +21,29 @@ def called(words, **more):
 def test_help_names_each_subcommand():
     status, said, _fault = called(["--help"])
     assert status == 0 and all(f"\n    {name} " in said for name in ("convert", "late", "report", "delays"))
+
+
+def test_help_shows_how_the_program_is_called(tmp_path):
+    script = tmp_path / "altqplay"
+    script.write_text("#!/bin/sh\necho said; echo 'altqplay 9: check FILE' >&2; exit 2\n")
+    script.chmod(0o755)
+    status, said, fault = called(["--help"], ALTQPLAY=str(script))
+    assert (status, fault) == (0, "") and said.endswith("the program:\naltqplay 9: check FILE\n")
+    assert called(["--help"], ALTQPLAY=str(tmp_path / "none"))[::2] == (0, "")
+
+
+def test_the_man_page_tells_each_subcommand():
+    with open(os.path.join(ROOT, "docs", "reference", "altqwork.1"), encoding="ascii") as file:
+        page = file.read()
+    section = page.partition(".SH SUBCOMMANDS\n")[2].partition(".SH")[0]
+    assert re.findall(r"^\.TP\n\\fB(\w+)\\fR$", section, re.M) == sorted(cli.MODULES)
+
+
+@pytest.mark.skipif(not shutil.which("mandoc"), reason="no mandoc")
+def test_the_man_page_has_no_fault():
+    page = os.path.join(ROOT, "docs", "reference", "altqwork.1")
+    done = subprocess.run(["mandoc", "-T", "lint", "-W", "all", page], stdout=subprocess.PIPE, check=False)
+    assert (done.returncode, done.stdout) == (0, b"")
 
 
 @pytest.mark.parametrize("words", [[], ["what"], ["late", "--seed", "x"], ["convert"], ["report", "--allow"]])
@@ -37,6 +62,9 @@ def test_a_library_that_is_missing(tmp_path):
     assert done.returncode == 77 and b"is not installed: run workbench/setup" in done.stderr
     assert subprocess.run([*words, "--version"], stdout=subprocess.PIPE, check=False).returncode == 0
     assert subprocess.run([*words, "delays", "--help"], stdout=subprocess.PIPE, check=False).returncode == 0
+    (tmp_path / "f").write_text(HEAD)
+    done = subprocess.run([*words, "delays", tmp_path / "f", tmp_path / "f"], stdout=subprocess.PIPE, stderr=subprocess.PIPE, check=False)
+    assert (done.returncode, done.stderr) == (77, b"altqwork: the Python library numpy is not installed: run workbench/setup\n")
 
 
 @pytest.fixture

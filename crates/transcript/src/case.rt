@@ -1,16 +1,11 @@
 // A case: what was said so far, and the files of its runs.
 
-use crate::averages::average;
-use crate::calls::{add_flow_of, of_curve};
-use crate::capture::{Form, arrive, begin};
-use crate::changes::{How, change};
 use crate::command::{add_status, run_over, run_steady_over};
-use crate::moments::next_at;
-use crate::packet::word;
-use crate::records::add_records;
-use crate::texts::{add_lines, add_text};
 use crate::trials::{Each, OUTPUTS};
-use crate::words::number;
+use case_bytes::{
+    Form, How, add_lines, add_records, add_text, arrive, begin, change, number, word,
+};
+use case_calls::{add_flow_of, average, next_at, of_curve};
 use memory_files::{Call, MemoryFiles, SteadyFiles};
 use std::alloc::Global;
 

@@ -5,20 +5,9 @@
 //! words are not understood, or that memory ran out.
 #![tactic(auto)]
 
-mod averages;
-mod calls;
-mod capture;
 mod case;
-mod changes;
 mod command;
-mod moments;
-mod openings;
-mod packet;
-mod records;
-mod sendings;
-mod texts;
 mod trials;
-mod words;
 
 use case::Case;
 use play_base::NoMemory;

@@ -1,5 +1,5 @@
-//! Worked plays whose answers were reckoned by hand: standard input is a transcript, and standard output the same with the answers of
-//! now. `stdin` and `stdout` beside src/ are the same text.
+//! Plays whose answers were reckoned by hand, and random plays on which another program of the same rules agrees: standard input is a
+//! transcript, and standard output the same with the answers of now. `stdin` and `stdout` beside src/ are the same text.
 #![tactic(auto)]
 
 use play_base::NoMemory;
