@@ -27,6 +27,7 @@ MODULES = {
     "why": "why",
     "sweep": "sweep",
     "find": "find",
+    "chain": "chain",
     "gap": "gap",
     "meter": "meter",
     "path": "path",

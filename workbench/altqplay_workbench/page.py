@@ -162,7 +162,7 @@ class Drawing:
 
     def key(self, times: Times) -> str:
         """What the colours and the steps are."""
-        shades = '<i class="first"></i>before<i class="last"></i>after' if len(self.sides) == 2 else ""
+        shades = f'<i class="first"></i>{self.sides[0].label}<i class="last"></i>{self.sides[1].label}' if len(self.sides) == 2 else ""
         want = '<i class="asked"></i>wanted' if any(want.measure == "delay" for want in self.asked) else ""
         rest = f" Drawn are the {MOST_DRAWN} classes with the most packets." if len(self.shown) < len(self.names) else ""
         key = f'<p class="key">{shades}{want}</p>' if shades or want else ""
