@@ -1,24 +1,27 @@
 """The state of the rules at a point of a play, from what the fates tell of all before it (`why_history`): whole numbers, without a replay.
 
 HFSC has its state at any point. Counts, totals and openings follow at once; virtual times need a pass over the moments at which a class
-becomes active or no more, since a packet in between moves one by what its curve says. The credits of CBQ are 0 where nothing
-waits, so its play begins at such a point. Averages of CBQ and RED take a pass over their packets.
+becomes active or no more, since a packet in between moves one by what its curve says. Averages of CBQ and RED take a pass over
+their packets. The credits of CBQ are 0 where a class has nothing that waits, and of a class alone in its priority its own packets
+tell them; where several of a priority wait, `known_point` goes back to where none of them did.
 """
 
 from __future__ import annotations
 
-from bisect import bisect_left
+from bisect import bisect_left, bisect_right
+from dataclasses import dataclass
 
 import numpy
 
 from .rules.cbq import Cbq, Node as CbqNode, moved
+from .rules.classes import classes_of
 from .rules.curves import Openings
 from .rules.hfsc import Hfsc, Node
 from .rules.packets import Packet
 from .rules.play import Play
 from .rules.queues import GAIN, SPACING, WEIGHT, Red, idled
 from .rules.units import BYTE
-from .why_history import Below, Columns, History, Point, Unordered, highest
+from .why_history import MOST, Below, Columns, History, Point, Unordered, highest
 
 
 def packet_of(columns: Columns, packet: int, services: tuple[list[int], list[bool]] | None) -> Packet:
@@ -88,13 +91,14 @@ class Sibling:
     """A child of a class with what its virtual time hangs on: the last opening, the highest line of its second slope where its curve falls,
     and what went of it."""
 
-    __slots__ = ("node", "m1", "m2", "d", "bend", "at", "base", "flat", "own", "went_at", "sums")
+    __slots__ = ("node", "m1", "m2", "d", "bend", "at", "base", "flat", "own", "went_at", "sums", "pairs", "seen")
 
     def __init__(self, node: Node, found: Below) -> None:
         curve: Openings = node.sharing
         self.node, self.m1, self.m2, self.d = node, curve.m1, curve.m2, curve.d
         self.bend = (curve.m1 - curve.m2) * curve.d if curve.m1 > curve.m2 else 0
-        self.at, self.base, self.flat, self.own = 0, -1, 0, 0
+        self.at, self.base, self.flat, self.own, self.seen = 0, -1, 0, 0, 0
+        self.pairs: list[int] = []  # in which it alone is active, of the family's, and how many had passed at its last other event
         self.went_at, self.sums = found.went_at.tolist(), found.sums.tolist()
 
     def open(self, virtual: int, sent: int) -> None:
@@ -124,7 +128,12 @@ class Sibling:
 
 
 class Family:
-    """The children of a class, and the events by which they become active or no more, in their order."""
+    """The children of a class, and the events by which they become active or no more, in their order.
+
+    Mostly a child becomes active and no more while no other is. Such a pair of events moves the high mark by what its curve says, and
+    the child to the high mark, if the curve does not fall; so of runs of such pairs the sums are enough, `gains`, which are exact in 64
+    bits. `marks` are the high marks behind the other events, each with the pairs before it.
+    """
 
     def __init__(self, parent: Node, below: dict[int, Below]) -> None:
         self.parent, founds = parent, [below[node.place] for node in parent.children]
@@ -141,26 +150,74 @@ class Family:
             wakes += [numpy.ones(len(begins), dtype=bool), numpy.zeros(len(ends), dtype=bool)]
             places.append(numpy.full(len(begins) + len(ends), number))
         order = numpy.argsort(numpy.concatenate(at), kind="stable")
-        self.events = [numpy.concatenate(values)[order].tolist() for values in (places, at, sent, wakes)]
+        self.place, self.at, self.sent, self.wakes = (numpy.concatenate(values)[order] for values in (places, at, sent, wakes))
+        self.pairs, self.gains = self.alone()
+        self.sums = [0, *numpy.cumsum(self.gains).tolist()]
+        self.marks: tuple[list[int], list[int]] = ([], [])
+        of = self.place[self.pairs]
+        for number, one in enumerate(self.siblings):
+            one.pairs = numpy.flatnonzero(of == number).tolist() if len(self.pairs) else []
+
+    def alone(self) -> tuple[numpy.ndarray, numpy.ndarray]:
+        """The events at which a child whose curve does not fall becomes active while no other is nor becomes so until it is no more; and
+        by how much each moves the high mark."""
+        active = numpy.cumsum(numpy.where(self.wakes, 1, -1))
+        is_alone = self.wakes & (active == 1) & numpy.append(active[1:] == 0, False) & numpy.array([not one.bend for one in self.siblings])[self.place]
+        pairs = numpy.flatnonzero(is_alone)
+        slope, wait = (numpy.array([getattr(one, name) for one in self.siblings], dtype=numpy.int64)[self.place[pairs]] for name in ("m2", "d"))
+        sizes = self.sent[numpy.minimum(pairs + 1, len(self.sent) - 1)] - self.sent[pairs] if len(pairs) else pairs
+        if int(sizes.max(initial=0)) * BYTE < MOST:
+            gains = wait - -BYTE * sizes // slope
+            if int(gains.max(initial=0)) * len(pairs) < MOST:
+                return pairs, gains
+        return pairs[:0], pairs[:0]
+
+    def behind(self, pair: int) -> int:
+        """The high mark behind a pair."""
+        passed, highs = self.marks
+        last = bisect_right(passed, pair) - 1
+        return self.sums[pair + 1] + (highs[last] - self.sums[passed[last]] if last >= 0 else 0)
+
+    def own(self, one: Sibling, passed: int) -> int:
+        """The virtual time of a child that is not active, when so many pairs were passed."""
+        last = bisect_left(one.pairs, passed) - 1
+        return self.behind(one.pairs[last]) if last >= 0 and one.pairs[last] >= one.seen else one.own
 
     def set(self) -> None:
         """Reckons the virtual times of the children, and the high mark."""
-        siblings, high = self.siblings, 0
-        active: list[Sibling] = []
-        for place, at, sent, wakes in zip(*self.events):
-            one = siblings[place]
+        is_other = numpy.ones(len(self.at), dtype=bool)
+        is_other[self.pairs], is_other[self.pairs + 1] = False, False
+        rows = numpy.flatnonzero(is_other)
+        passed = numpy.searchsorted(self.pairs, rows)
+        high, done, active = 0, 0, []
+        note, mark = (values.append for values in self.marks)
+        for place, at, sent, wakes, now in zip(*(values.tolist() for values in (self.place[rows], self.at[rows], self.sent[rows], self.wakes[rows], passed))):
+            one = self.siblings[place]
+            high += self.sums[now] - self.sums[done]
+            done = now
             if wakes:
-                virtual = max(one.own, middle(active, at)) if active else high
+                virtual = max(self.own(one, now), middle(active, at)) if active else high
                 one.open(virtual, sent)
                 active.append(one)
             else:
                 virtual = one.own = one.virtual(sent)
                 active.remove(one)
+            one.seen = now
             if virtual > high:
                 high = virtual
-        for one, is_active in zip(siblings, self.is_active):
+            note(now)
+            mark(high)
+        self.finish(high + self.sums[-1] - self.sums[done])
+
+    def finish(self, high: int) -> None:
+        """Gives each child what it has behind all events."""
+        for one, is_active in zip(self.siblings, self.is_active):
+            if one.pairs and one.pairs[-1] >= one.seen and not is_active:
+                pair = one.pairs[-1]
+                one.own, one.base = self.behind(pair), int(self.sent[self.pairs[pair]])
+                one.at = one.own - int(self.gains[pair])
             one.set(is_active)
-        self.parent.high = max([high] + [one.node.virtual for one in siblings])
+        self.parent.high = max([high] + [one.node.virtual for one in self.siblings])
 
 
 def middle(active: list[Sibling], at: int) -> int:
@@ -172,8 +229,43 @@ def middle(active: list[Sibling], at: int) -> int:
     return (min(virtual) + max(virtual)) // 2
 
 
+@dataclass
+class Waiting:
+    """The classes of a priority, of which some wait at a point: what came and went of them all, since which of the packets that came none
+    of them had nothing waiting, and the places of the classes that packets came to since."""
+
+    found: Below
+    since: int
+    places: list[int]
+
+
+def waiting_of(history: History) -> list[Waiting]:
+    """The priorities of which something waits."""
+    priorities: dict[int, list[int]] = {}
+    for place, given in enumerate(classes_of(history.columns.interface)):
+        priorities.setdefault(given.priority, []).append(place)
+    told = []
+    for places in priorities.values():
+        found = history.of(places)
+        if found.is_active:
+            since = int(found.wakes[-1])
+            told.append(Waiting(found, since, numpy.unique(history.columns.of[history.kept[found.came[since:]]]).tolist()))
+    return told
+
+
+def known_point(columns: Columns, point: Point) -> Point:
+    """The last point of CBQ, up to one, at which all credits are known: at which of each priority nothing waits, or has waited of one
+    class alone since nothing of the priority did."""
+    while True:
+        history = History(columns, point)
+        back = [int(history.kept[one.found.came[one.since]]) for one in waiting_of(history) if len(one.places) > 1]
+        if not back:
+            return point
+        point = columns.offered(min(back))
+
+
 def set_cbq(discipline: Cbq, history: History) -> None:
-    """What the classes of CBQ have by a point at which nothing waits, when all credits are 0."""
+    """What the classes of CBQ have by a point at which all credits are known."""
     columns = history.columns
     for node in discipline.members:
         found = history.below(node.place)
@@ -185,6 +277,19 @@ def set_cbq(discipline: Cbq, history: History) -> None:
         went = history.went[node.place]
         if len(went) and went[-1] > last[node.given.priority]:
             last[node.given.priority], discipline.cursors[node.given.priority] = int(went[-1]), node.place
+    for one in waiting_of(history):
+        node = discipline.members[one.places[0]]
+        node.credit = credit_of(node, columns.sent_length[one.found.went[one.since:]].tolist())
+
+
+def credit_of(node: CbqNode, lengths: list[int]) -> int:
+    """The credit of a class alone in its priority behind packets that it sent while it had more: each round gains it its quantum."""
+    credit, quantum = 0, node.quantum
+    for length in lengths:
+        if length > credit:
+            credit += -(-(length - credit) // quantum) * quantum
+        credit -= length
+    return credit
 
 
 def average_of(node: CbqNode, columns: Columns, went: numpy.ndarray) -> int:
@@ -260,7 +365,7 @@ class Averages:
         steps = numpy.maximum(0, self.arrival - since) // queue.step
         average, found = queue.averages[kind], []
         for count, idle in zip(waiting[moves].tolist(), steps[moves].tolist()):
-            average = average + GAIN * count - average // WEIGHT if count else idled(average, idle)
+            average = average + GAIN * count - average // WEIGHT if count else average if average < WEIGHT else idled(average, idle)
             found.append(average)
         queue.averages[kind] = average
         behind = numpy.zeros(len(moves), dtype=numpy.int64)
