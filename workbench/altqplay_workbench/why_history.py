@@ -148,7 +148,8 @@ class History:
 def grouped(values: numpy.ndarray, count: int) -> list[numpy.ndarray]:
     """Of some numbers below `count` the places of each, in rising order."""
     ends = numpy.cumsum(numpy.bincount(values, minlength=count))
-    return numpy.split(numpy.argsort(values, kind="stable"), ends[:-1])
+    kind = numpy.int16 if count < 2**15 else numpy.int64  # numpy sorts the former digit by digit
+    return numpy.split(numpy.argsort(values.astype(kind), kind="stable"), ends[:-1])
 
 
 def highest(slope: int, moments: numpy.ndarray, counts: numpy.ndarray) -> int:
