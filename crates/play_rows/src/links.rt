@@ -1,4 +1,5 @@
 // What a chain tells of its two links: the line of a status, and the parts by which faults are counted.
+ghost use Rattle.std.specs.Prelude.{◌<◌};
 
 use command_base::{Failure, Link, LinkFault, RunLimit, Status};
 use memory_files::{Call, MemoryFiles};
