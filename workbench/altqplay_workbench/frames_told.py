@@ -2,6 +2,7 @@
 
 from __future__ import annotations
 
+from functools import lru_cache
 from typing import List
 
 import numpy
@@ -30,6 +31,7 @@ def lengths(frames: Frames, reading: Reading) -> numpy.ndarray:
     return found
 
 
+@lru_cache(maxsize=1)
 def told_of_frames(frames: Frames) -> List[str]:
     """The lines on a capture's frames."""
     if not len(frames):

@@ -9,7 +9,7 @@ from __future__ import annotations
 import numpy
 
 from .columns import distinct
-from .flows import Heads, numbered
+from .flows import heads_of, numbered
 
 TAGS, EXTENSIONS = (0x8100, 0x88A8), (0, 43, 44, 51, 60)
 TCP, UDP, ICMP, ICMP6, FRAGMENT, AH = 6, 17, 1, 58, 44, 51
@@ -57,7 +57,7 @@ class Reading:
     """Reads the headers of a capture's frames."""
 
     def __init__(self, frames):
-        self.heads = Heads(frames)
+        self.heads = heads_of(frames)
         base = numpy.full(len(frames), 12, dtype=numpy.int64)
         for _tag in range(2):
             base = numpy.where(numpy.isin(self.word(base), TAGS), base + 4, base)

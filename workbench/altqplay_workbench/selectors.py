@@ -93,7 +93,7 @@ class Reader:
             return lambda heads: heads.is_bare
         number = services.protocol_number(self.value(name) if name == "proto" else name)
         if number is None:
-            raise self.fault(name, "no condition that is known: altqwork import --help lists them")
+            raise self.fault(name, "no condition that is known: docs/operators/PF-TC.md lists them")
         return lambda heads: heads.protocol == number
 
     def condition(self):
