@@ -8,7 +8,6 @@ tell them; where several of a priority wait, `known_point` goes back to where no
 
 from __future__ import annotations
 
-from bisect import bisect_left, bisect_right
 from dataclasses import dataclass
 
 import numpy
@@ -16,12 +15,13 @@ import numpy
 from .rules.cbq import Cbq, Node as CbqNode, moved
 from .rules.classes import classes_of
 from .rules.curves import Openings
-from .rules.hfsc import Hfsc, Node
+from .rules.hfsc import Hfsc
 from .rules.packets import Packet
 from .rules.play import Play
 from .rules.queues import GAIN, SPACING, WEIGHT, Red, idled
 from .rules.units import BYTE
-from .why_history import MOST, Below, Columns, History, Point, Unordered, highest
+from .why_history import Below, Columns, History, Point, highest
+from .why_virtual import Family
 
 
 def packet_of(columns: Columns, packet: int, services: tuple[list[int], list[bool]] | None) -> Packet:
@@ -85,148 +85,6 @@ def set_hfsc(discipline: Hfsc, history: History) -> None:
             Family(node, below).set()
     for node in reversed(discipline.members):  # a class stands behind its parent
         node.renew_opens()
-
-
-class Sibling:
-    """A child of a class with what its virtual time hangs on: the last opening, the highest line of its second slope where its curve falls,
-    and what went of it."""
-
-    __slots__ = ("node", "m1", "m2", "d", "bend", "at", "base", "flat", "own", "went_at", "sums", "pairs", "seen")
-
-    def __init__(self, node: Node, found: Below) -> None:
-        curve: Openings = node.sharing
-        self.node, self.m1, self.m2, self.d = node, curve.m1, curve.m2, curve.d
-        self.bend = (curve.m1 - curve.m2) * curve.d if curve.m1 > curve.m2 else 0
-        self.at, self.base, self.flat, self.own, self.seen = 0, -1, 0, 0, 0
-        self.pairs: list[int] = []  # in which it alone is active, of the family's, and how many had passed at its last other event
-        self.went_at, self.sums = found.went_at.tolist(), found.sums.tolist()
-
-    def open(self, virtual: int, sent: int) -> None:
-        """Opens at a virtual time, when so many bytes were sent. A line through it is above those of all earlier openings, since it is not
-        before the virtual time that they give; of a curve that falls, only that of the first slope."""
-        if self.bend:
-            flat = self.m2 * virtual - BYTE * sent
-            self.flat = flat if self.base < 0 or flat > self.flat else self.flat
-        self.at, self.base = virtual, sent
-
-    def virtual(self, sent: int) -> int:
-        """The virtual time when so many bytes were sent; that of the last opening where none was since."""
-        if sent == self.base:
-            return self.at
-        gained = BYTE * (sent - self.base)
-        if self.bend:
-            return max(self.at - -gained // self.m1, -(-(BYTE * sent + self.flat - self.bend) // self.m2))
-        return self.at + self.d - -gained // self.m2
-
-    def set(self, is_active: bool) -> None:
-        """Gives the class its virtual time and its openings."""
-        if self.base >= 0:
-            sharing, units = self.node.sharing, BYTE * self.base
-            sharing.first = sharing.last = self.at, units
-            sharing.steep, sharing.flat = self.m1 * self.at - units, self.flat if self.bend else self.m2 * self.at - units
-            self.node.virtual = self.virtual(self.sums[-1]) if is_active else self.own
-
-
-class Family:
-    """The children of a class, and the events by which they become active or no more, in their order.
-
-    Mostly a child becomes active and no more while no other is. Such a pair of events moves the high mark by what its curve says, and
-    the child to the high mark, if the curve does not fall; so of runs of such pairs the sums are enough, `gains`, which are exact in 64
-    bits. `marks` are the high marks behind the other events, each with the pairs before it.
-    """
-
-    def __init__(self, parent: Node, below: dict[int, Below]) -> None:
-        self.parent, founds = parent, [below[node.place] for node in parent.children]
-        if any(node.sharing is None or node.sharing.m2 == 0 for node in parent.children):
-            raise Unordered  # no such class is read
-        self.siblings = [Sibling(node, found) for node, found in zip(parent.children, founds)]
-        self.is_active = [found.is_active for found in founds]
-        places, at, sent, wakes = [], [], [], []
-        for number, found in enumerate(founds):
-            begins, ends = found.wakes, found.wakes[1:] if found.is_active else numpy.append(found.wakes[1:], len(found.came))
-            ends = ends[ends > 0]
-            at += [found.came_at[begins], found.went_at[ends - 1]]
-            sent += [found.sums[begins], found.sums[ends]]
-            wakes += [numpy.ones(len(begins), dtype=bool), numpy.zeros(len(ends), dtype=bool)]
-            places.append(numpy.full(len(begins) + len(ends), number))
-        order = numpy.argsort(numpy.concatenate(at), kind="stable")
-        self.place, self.at, self.sent, self.wakes = (numpy.concatenate(values)[order] for values in (places, at, sent, wakes))
-        self.pairs, self.gains = self.alone()
-        self.sums = [0, *numpy.cumsum(self.gains).tolist()]
-        self.marks: tuple[list[int], list[int]] = ([], [])
-        of = self.place[self.pairs]
-        for number, one in enumerate(self.siblings):
-            one.pairs = numpy.flatnonzero(of == number).tolist() if len(self.pairs) else []
-
-    def alone(self) -> tuple[numpy.ndarray, numpy.ndarray]:
-        """The events at which a child whose curve does not fall becomes active while no other is nor becomes so until it is no more; and
-        by how much each moves the high mark."""
-        active = numpy.cumsum(numpy.where(self.wakes, 1, -1))
-        is_alone = self.wakes & (active == 1) & numpy.append(active[1:] == 0, False) & numpy.array([not one.bend for one in self.siblings])[self.place]
-        pairs = numpy.flatnonzero(is_alone)
-        slope, wait = (numpy.array([getattr(one, name) for one in self.siblings], dtype=numpy.int64)[self.place[pairs]] for name in ("m2", "d"))
-        sizes = self.sent[numpy.minimum(pairs + 1, len(self.sent) - 1)] - self.sent[pairs] if len(pairs) else pairs
-        if int(sizes.max(initial=0)) * BYTE < MOST:
-            gains = wait - -BYTE * sizes // slope
-            if int(gains.max(initial=0)) * len(pairs) < MOST:
-                return pairs, gains
-        return pairs[:0], pairs[:0]
-
-    def behind(self, pair: int) -> int:
-        """The high mark behind a pair."""
-        passed, highs = self.marks
-        last = bisect_right(passed, pair) - 1
-        return self.sums[pair + 1] + (highs[last] - self.sums[passed[last]] if last >= 0 else 0)
-
-    def own(self, one: Sibling, passed: int) -> int:
-        """The virtual time of a child that is not active, when so many pairs were passed."""
-        last = bisect_left(one.pairs, passed) - 1
-        return self.behind(one.pairs[last]) if last >= 0 and one.pairs[last] >= one.seen else one.own
-
-    def set(self) -> None:
-        """Reckons the virtual times of the children, and the high mark."""
-        is_other = numpy.ones(len(self.at), dtype=bool)
-        is_other[self.pairs], is_other[self.pairs + 1] = False, False
-        rows = numpy.flatnonzero(is_other)
-        passed = numpy.searchsorted(self.pairs, rows)
-        high, done, active = 0, 0, []
-        note, mark = (values.append for values in self.marks)
-        for place, at, sent, wakes, now in zip(*(values.tolist() for values in (self.place[rows], self.at[rows], self.sent[rows], self.wakes[rows], passed))):
-            one = self.siblings[place]
-            high += self.sums[now] - self.sums[done]
-            done = now
-            if wakes:
-                virtual = max(self.own(one, now), middle(active, at)) if active else high
-                one.open(virtual, sent)
-                active.append(one)
-            else:
-                virtual = one.own = one.virtual(sent)
-                active.remove(one)
-            one.seen = now
-            if virtual > high:
-                high = virtual
-            note(now)
-            mark(high)
-        self.finish(high + self.sums[-1] - self.sums[done])
-
-    def finish(self, high: int) -> None:
-        """Gives each child what it has behind all events."""
-        for one, is_active in zip(self.siblings, self.is_active):
-            if one.pairs and one.pairs[-1] >= one.seen and not is_active:
-                pair = one.pairs[-1]
-                one.own, one.base = self.behind(pair), int(self.sent[self.pairs[pair]])
-                one.at = one.own - int(self.gains[pair])
-            one.set(is_active)
-        self.parent.high = max([high] + [one.node.virtual for one in self.siblings])
-
-
-def middle(active: list[Sibling], at: int) -> int:
-    """The middle of the least and the greatest virtual time of active siblings at an event."""
-    if len(active) == 1:
-        one = active[0]
-        return one.virtual(one.sums[bisect_left(one.went_at, at)])
-    virtual = [one.virtual(one.sums[bisect_left(one.went_at, at)]) for one in active]
-    return (min(virtual) + max(virtual)) // 2
 
 
 @dataclass
