@@ -179,7 +179,7 @@ def wrong_commands(line):
                 yield f"no option altqwork {name} {option}"
     known = options_of("docs/reference/MANUAL.md")
     for name, rest in ALTQPLAY.findall(line):
-        if name in COMMANDS:
+        if name in COMMANDS and "# kind 2" not in line:  # such a command shows that its options are refused
             for option in OPTION.findall(rest):
                 if option not in known:
                     yield f"no option altqplay {name} {option}"

@@ -1,8 +1,8 @@
 #!/usr/bin/env python3
 """Runs the commands that the pages show, and compares what comes out with what the pages show.
 
-Takes names of pages; without them README.md and all pages of docs/ and its folders are looked at. With --quiet before them it says
-nothing but what does not come out as shown and what was left out. It takes seconds, 100 MB of disk and 200 MB of memory.
+Takes names of pages; without them README.md, all pages of docs/ and its folders, and robust/messages.txt are looked at. With --quiet
+before them it says nothing but what does not come out as shown and what was left out. It takes seconds, 100 MB of disk and 200 MB of memory.
 
 A block of a page that is marked `console` holds commands and what they print, on standard output and standard
 error together. A line that begins with `$ ` is a command, lines that begin with `> ` continue it, and a line `...`
@@ -32,6 +32,7 @@ PROGRAM = os.path.join("crates", "altqplay", "out", "altqplay")  # where the com
 WORKBENCH = os.path.join("workbench", "altqwork")
 MISSING = 77  # the status of a subcommand of the workbench whose libraries are not there
 TOOLS = ["tcpdump", "tshark", "capinfos", "editcap", "gnuplot"]
+MESSAGES = os.path.join(ROOT, "robust", "messages.txt")
 SECONDS = 600
 MARK = "\x01end of a command\x01"
 
@@ -193,7 +194,7 @@ def main(words):
         if "--quiet" not in options:
             print(f"try_commands.py: nothing was run, since there is no {' and no '.join(lacking)}")
         return 0
-    pages = pages or [os.path.join(ROOT, "README.md"), *sorted(glob.glob(os.path.join(ROOT, "docs", "**", "*.md"), recursive=True))]
+    pages = pages or [os.path.join(ROOT, "README.md"), *sorted(glob.glob(os.path.join(ROOT, "docs", "**", "*.md"), recursive=True)), MESSAGES]
     done = [judge(page, "--quiet" in options) for page in pages]
     return 0 if all(done) else 1
 

@@ -96,18 +96,15 @@ def clauses(crates, names, faults):
         yield f"`{member}` of `{first}`" if member else f"`{first}`"
 
 
-def crate_rows(rows, faults, is_short):
+def crate_rows(rows, faults):
     """A row for each crate, or a few that go together."""
-    yield "| crate | promise | clause | not proved |" if is_short else "| crate | what is proved | clauses |"
-    yield "|---|---|---|---|" if is_short else "|---|---|---|"
+    yield "| crate | promise | clauses | not proved |"
+    yield "|---|---|---|---|"
     for names, promise, cited, rest, *more in rows:
         crates = [name.strip() for name in names.split(",")]
-        found = list(clauses(crates, cited, faults))
+        found = ", ".join(clauses(crates, cited, faults))
         ticked = ", ".join(f"`{name}`" for name in crates)
-        if is_short:
-            yield f"| {ticked} | {promise} | {found[0] if found else ''} | {rest} |"
-        else:
-            yield f"| {ticked} | {'. '.join([promise, *filter(None, more)])} | {', '.join(found)} |"
+        yield f"| {ticked} | {'; '.join([promise, *filter(None, more)])} | {found} | {rest} |"
 
 
 def listed(rows, faults):
@@ -137,8 +134,7 @@ def parts(faults):
             found.setdefault("promises", []).extend([f"### {heading}", "", *promises(rows, faults), ""])
         elif kind == "crates":
             listed(rows, faults)
-            found["crates"] = list(crate_rows(rows, faults, is_short=False))
-            found["lines"] = list(crate_rows(rows, faults, is_short=True))
+            found["crates"] = list(crate_rows(rows, faults))
         else:
             found["definitions"] = list(definitions(rows, faults))
     return found

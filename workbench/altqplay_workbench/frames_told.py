@@ -2,7 +2,6 @@
 
 from __future__ import annotations
 
-from functools import lru_cache
 from typing import List
 
 import numpy
@@ -31,19 +30,19 @@ def lengths(frames: Frames, reading: Reading) -> numpy.ndarray:
     return found
 
 
-@lru_cache(maxsize=1)
-def told_of_frames(frames: Frames) -> List[str]:
+def told_of_frames(frames: Frames, reading: Reading) -> List[str]:
     """The lines on a capture's frames."""
     if not len(frames):
         return ["the capture holds no packets"]
-    reading, lines = Reading(frames), []
+    lines = []
     is_other = ~(reading.is_4 | reading.is_6)
     if is_other.any():
         kinds, counts = numpy.unique([named(kind) for kind in reading.kind[is_other].tolist()], return_counts=True)
         which = ", ".join(f"{count} {kind}" for count, kind in sorted(zip(counts.tolist(), kinds.tolist()), reverse=True))
         lines.append(f"{int(is_other.sum())} frames of neither version of IP are in the default class: {which}")
-    long = lengths(frames, reading) - (reading.ip - 14) > LONGEST  # each tag before the packet takes four more
+    sizes = lengths(frames, reading)
+    long = sizes - (reading.ip - 14) > LONGEST  # each tag before the packet takes four more
     if long.any():
-        lines.append(f"{int(long.sum())} frames are longer than {LONGEST} bytes, the longest {int(lengths(frames, reading).max())}: receive offload joined them,"
+        lines.append(f"{int(long.sum())} frames are longer than {LONGEST} bytes, the longest {int(sizes.max())}: receive offload joined them,"
                      " or they are jumbo frames. Each is played in one piece; turn offload off while you capture (ethtool -K em1 gro off lro off)")
     return lines

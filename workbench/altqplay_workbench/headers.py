@@ -14,12 +14,29 @@ from .flows import heads_of, numbered
 TAGS, EXTENSIONS = (0x8100, 0x88A8), (0, 43, 44, 51, 60)
 TCP, UDP, ICMP, ICMP6, FRAGMENT, AH = 6, 17, 1, 58, 44, 51
 SYN, ACK = 2, 16
+MIXER = numpy.uint64(0x9E3779B97F4A7C15)  # odd, so that no two words become one
 COLUMNS = ("family", "protocol", "tos", "src_high", "src_low", "dst_high", "dst_low", "sport", "dport", "has_ports", "flags", "is_bare",
            "icmp", "code", "ident")
 
 
 class Headers:
     """A column for each of COLUMNS, a row for each frame, or for each of some rows of others."""
+
+    family: numpy.ndarray
+    protocol: numpy.ndarray
+    tos: numpy.ndarray
+    src_high: numpy.ndarray
+    src_low: numpy.ndarray
+    dst_high: numpy.ndarray
+    dst_low: numpy.ndarray
+    sport: numpy.ndarray
+    dport: numpy.ndarray
+    has_ports: numpy.ndarray
+    flags: numpy.ndarray
+    is_bare: numpy.ndarray
+    icmp: numpy.ndarray
+    code: numpy.ndarray
+    ident: numpy.ndarray
 
     def __init__(self, columns):
         self.__dict__.update(columns)
@@ -39,11 +56,32 @@ class Headers:
 
     def groups(self, names):
         """The number of each row's group, of those that agree in some columns; numbers are in the order of their first rows."""
-        found = numpy.zeros(len(self), dtype=numpy.int64)
-        for name in names:
-            kinds, codes = distinct(getattr(self, name))
+        words = packed([getattr(self, name) for name in names])
+        mixed = numpy.zeros(len(self), dtype=numpy.uint64)
+        for word in words:
+            mixed = (mixed ^ word) * MIXER
+            mixed ^= mixed >> numpy.uint64(29)
+        found, rows = numbered(distinct(mixed)[1])
+        if all((word == word[rows][found]).all() for word in words):
+            return found
+        found = numpy.zeros(len(self), dtype=numpy.int64)  # two groups were mixed into one number, so they are told apart word by word
+        for word in words:
+            kinds, codes = distinct(word)
             found = distinct(found * len(kinds) + codes)[1]
         return numbered(found)[0]
+
+
+def packed(columns):
+    """Some columns side by side in words of 64 bits, each as wide as its greatest value; those that are 0 everywhere are left out."""
+    words, left = [], 0
+    for column in columns:
+        values = column.astype(numpy.uint64) + numpy.uint64(column.dtype.kind == "i")  # -1 stands for nothing in some
+        wide = int(values.max(initial=0)).bit_length()
+        if wide > left:
+            words, left = words + [numpy.zeros(len(values), dtype=numpy.uint64)], 64
+        words[-1:] = [words[-1] << numpy.uint64(min(wide, 63)) | values if wide < 64 else values] if wide else words[-1:]
+        left -= wide
+    return words or [numpy.zeros(len(columns[0]), dtype=numpy.uint64)]
 
 
 def first_rows(groups):

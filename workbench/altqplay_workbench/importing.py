@@ -17,6 +17,7 @@ from .altq_text import Notes, try_all, text_of
 from .asked import entry_of
 from .config_kinds import NAMES, kind_of
 from .faults import Missing, Refused
+from .pf_told import tell_statements
 from .pf_words import statements
 from .pfsense_xml import pf_lines
 from .printable import printable
@@ -69,12 +70,13 @@ def pf_statements(text, kind, notes):
 
 
 def pf_parts(text, given, notes):
-    """The statements of a pf.conf, its rules, and its interfaces without filters."""
+    """The rules of a pf.conf, and its interfaces without filters."""
     lines = pf_statements(text, given.kind, notes)
     interfaces = pf_queues.interfaces_of(lines, given, notes)
     rules = pf_rules.rules_of(lines, pf_rules.tables_of(lines, given.addresses), notes)
     pf_rules.settle_groups(rules, interfaces, notes)
-    return lines, rules, interfaces
+    tell_statements(lines, [one.name for one in interfaces], notes)
+    return rules, interfaces
 
 
 def tc_parts(text, given, notes):
@@ -89,8 +91,8 @@ def imported(text, given, notes):
     """The interfaces of a text."""
     given.kind = given.kind or kind(text, notes.name)
     if given.kind != "tc":
-        lines, rules, interfaces = pf_parts(text, given, notes)
-        pf_filters.add_filters(lines, rules, interfaces, notes)
+        rules, interfaces = pf_parts(text, given, notes)
+        pf_filters.add_filters(rules, interfaces, notes)
         return interfaces
     devices, interfaces = tc_parts(text, given, notes)
     for device, interface in zip(devices, interfaces):

@@ -51,9 +51,8 @@ def filters(interface: str, names: List[str], base: int, rule: int) -> str:
 class Marking:
     """Marks the packets of a capture with classes; a class of -1 leaves a packet to the configuration's own filters."""
 
-    def __init__(self, frames: Frames):
-        self.frames, self.reading = frames, Reading(frames)
-        self.heads = self.reading.headers()
+    def __init__(self, frames: Frames, reading: Reading):
+        self.frames, self.reading, self.heads = frames, reading, reading.headers()
         self.base = free_base(self.heads)
 
     def unmarked(self) -> int:
@@ -71,4 +70,4 @@ class Marking:
             for n in range(size):
                 data[starts[own] + offset + n] = marks[of_class[own], n]
         with open(name, "wb") as file:
-            file.write(data[:self.frames.places[-1] + 16 + self.frames.captured[-1] if len(self.frames) else 24])
+            file.write(memoryview(data[:self.frames.places[-1] + 16 + self.frames.captured[-1] if len(self.frames) else 24]))

@@ -16,15 +16,16 @@ import numpy
 
 from . import importing, pf_filters, tc_filters
 from .altq_text import MOST_FILTERS, Note, Notes, text_of, try_all
-from .captures import LONGEST, Frames, frames_of
+from .captures import LONGEST, frames_of
 from .conf import interface_named, read_conf
 from .config_kinds import kind_of
 from .convert import converted, is_playable
 from .faults import Refused
 from .frames_told import told_of_frames
 from .marking import GREATEST_RULE, Marking, filters
+from .headers import Reading
+from .pf_order import Order as PfOrder
 from .pf_order import Placed, notes_of_order
-from .pf_order import placed as placed_by_pf
 from .selectors import marks_of
 from .tc_order import Order as TcOrder
 from .tc_order import number_of
@@ -72,13 +73,13 @@ class Prepared:
 
 class Read(NamedTuple):
     """A configuration that was read: an altq.conf by its filters, what of it filters do not say, and what classifies packets by the rules
-    themselves, given the frames and the notes."""
+    themselves, given what marks them and the notes."""
 
     conf_text: str
     interface: str
     notes: Notes
     unsaid: Notes
-    classify: Optional[Callable[[Frames, Notes], Placed]]
+    classify: Optional[Callable[[Marking, Notes], Placed]]
     bare_text: str
 
 
@@ -99,14 +100,14 @@ def read_foreign(config: str, text: str, kind: Optional[str], interface: Optiona
     notes, unsaid = Notes(config), Notes(config)
     given.kind = kind or importing.kind(text, config)
     if given.kind != "tc":
-        lines, rules, interfaces = importing.pf_parts(text, given, notes)
+        rules, interfaces = importing.pf_parts(text, given, notes)
         one = interfaces[chosen(interfaces, interface, config)]
         bare_text = text_of([one], notes)
-        pf_filters.add_filters(lines, rules, [one], unsaid)
+        pf_filters.add_filters(rules, [one], unsaid)
 
-        def classify(frames, order_notes):
-            notes_of_order(lines, rules, one, interfaces, order_notes)
-            return placed_by_pf(one, rules, frames)
+        def classify(marking, order_notes):
+            notes_of_order(rules, one, interfaces, order_notes)
+            return PfOrder(one, rules).placed(marking.heads)
     else:
         devices, interfaces = importing.tc_parts(text, given, notes)
         place = chosen(interfaces, interface, config)
@@ -114,8 +115,8 @@ def read_foreign(config: str, text: str, kind: Optional[str], interface: Optiona
         bare_text = text_of([one], notes)
         tc_filters.add_filters(device, one, unsaid)
 
-        def classify(frames, order_notes):
-            return TcOrder(device, one, frames, marks, order_notes).placed()
+        def classify(marking, order_notes):
+            return TcOrder(device, one, marking, marks, order_notes).placed()
     if len(one.filters) > MOST_FILTERS:
         unsaid.say(f"the rules would be {len(one.filters)} filters, and there are at most {MOST_FILTERS}", has_effect=True)
         one.filters = []
@@ -187,14 +188,15 @@ def prepared(config: str, interface: Optional[str], captures: Sequence[str], fol
     shown, told = playable(captures, folder, options)
     frames = frames_of(shown)
     numbers = numpy.arange(len(frames) + 1)
-    told += told_of_frames(frames)
+    reading = Reading(frames)
+    told += told_of_frames(frames, reading)
     if not selectors and not any(note.has_effect for note in read.unsaid.all()):
         return Prepared(read.conf_text, read.interface, read.notes.all() + read.unsaid.all(), shown, captures[0], shown, numbers, told)
-    marking, rule = Marking(frames), 1
+    marking, rule = Marking(frames, reading), 1
     if read.classify is None:
         placed, rule = of_altq(config, read, options, len(frames))
     else:
-        placed = read.classify(frames, read.notes)
+        placed = read.classify(marking, read.notes)
     put_marks(placed, selectors, marking.heads)
     arrivals = os.path.join(folder, "marked.pcap")
     marking.write(arrivals, placed.of_class, placed.classes)

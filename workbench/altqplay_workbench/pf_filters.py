@@ -105,14 +105,9 @@ def told(rule, interfaces, notes):
         notes.add(rule.queues[1], "it takes the packets of low delay; that it takes TCP's bare acknowledgements has no equivalent")
 
 
-def add_filters(lines, rules, interfaces, notes):
+def add_filters(rules, interfaces, notes):
     """Gives each interface the filters of the rules."""
-    kinds = {words[0].text for words in lines}
-    if kinds & {"nat", "rdr", "binat"}:
-        notes.say("addresses are translated (nat, rdr, binat): filters see them as the capture has them")
-    if "anchor" in kinds:
-        notes.say("rules of an anchor are read as if they stood outside of it")
-    if "block" in kinds:
+    if any(rule.word.text == "block" for rule in rules):
         notes.say("what a block rule stops is no arrival of the queue: leave it out of the capture")
     passing = [rule for rule in rules if rule.word.text != "block"]
     for rule in rules:

@@ -228,7 +228,7 @@ def is_asked_with(rule: Rule, rules: List[Rule], name: str) -> bool:
     return rule.word.text == "pass" and any(looks(other, place, name) for other in rules if other.queues for place in places)
 
 
-def notes_of_order(lines, rules: List[Rule], interface: Interface, interfaces: List[Interface], notes: Notes) -> None:
+def notes_of_order(rules: List[Rule], interface: Interface, interfaces: List[Interface], notes: Notes) -> None:
     """Notes what of the rules is not understood where packets are classified by them, and what is taken for granted."""
     names = {one.name for some in interfaces for one in some.classes}
     inner = {one.parent for one in interface.classes} if interface.discipline == "hfsc" else set()
@@ -243,8 +243,4 @@ def notes_of_order(lines, rules: List[Rule], interface: Interface, interfaces: L
     others = {name for rule in rules if rule.queues and rule.direction != "out" for name in rule.interfaces} - {interface.name}
     if len(others) > 1:
         notes.say(f"a capture does not show where a packet came in: rules of {', '.join(sorted(others))} are asked of all packets")
-    if {words[0].text for words in lines} & {"nat", "rdr", "binat"}:
-        notes.say("addresses are translated (nat, rdr, binat): rules see them as the capture has them")
-    if any(words[0].text == "anchor" for words in lines):
-        notes.say("rules of an anchor are read as if they stood outside of it")
 

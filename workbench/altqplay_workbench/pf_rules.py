@@ -20,7 +20,9 @@ CONDITIONS = {"user", "group", "os", "probability", "received-on", "prio", "frag
 # Words of a rule that change no queue, with how many words stand behind each, parentheses counting as one.
 PASSED = {"label": 1, "rtable": 1, "tracker": 1, "ridentifier": 1, "allow-opts": 0, "drop": 0, "return": 0,
           "return-rst": 0, "return-icmp": 0, "return-icmp6": 0, "route-to": 1, "reply-to": 1, "dup-to": 1, "log": 0, "round-robin": 0,
-          "random": 0, "sticky-address": 0, "source-hash": 0, "bitmask": 0, "dnpipe": 1, "dnqueue": 1, "max-pkt-rate": 1}
+          "random": 0, "sticky-address": 0, "source-hash": 0, "bitmask": 0}
+# What changes when packets of a rule come to the queue, or whether they do.
+SHAPERS = {"dnpipe", "dnqueue", "max-pkt-rate"}
 FLAGS = {letter: 1 << place for place, letter in enumerate("FSRPAUEW")}
 NOT_IN_FILE = "what addresses it stands for is not in the file: give them by --address {0}=ADDRESS[,..]"
 ONE_PORT = "a filter has one port, and these are more than 64"
@@ -282,6 +284,9 @@ def other_part(cursor, rule, word):
     elif word.text == "tagged" or (word.text == "!" and cursor.skip("tagged")):
         rule.strange(word, "no filter can ask for this")
         rule.tagged = (cursor.take("a tag").text, word.text == "!")
+    elif word.text in SHAPERS:
+        cursor.notes.add(word, "it delays or drops packets before they come to the queue, and is not played")
+        cursor.group() if cursor.has("(") else cursor.take("a value")
     elif word.text in CONDITIONS:
         rule.untold(word, "neither the file nor a capture tells this")
         cursor.listed("a value")
@@ -343,7 +348,7 @@ def tables_of(lines, given=()) -> Dict[str, List[Entry]]:
     """The addresses of each `table` whose addresses stand in the file, and of the names that --address gives."""
     found = {}
     for words in lines:
-        if words[0].text == "table" and len(words) > 2 and any(word.text == "{" for word in words):
+        if words[0].text == "table" and any(word.text == "{" for word in words) and all(word.text != "file" for word in words):
             entries = table_entries(words[2:])
             if entries is not None:
                 found[words[1].text] = entries

@@ -82,7 +82,8 @@ class Writer:
     """Writes the lines, with the line of the file that each comes from."""
 
     def __init__(self, root: Element, notes: Notes):
-        self.root, self.notes, self.lines = root, notes, []
+        self.root, self.notes = root, notes
+        self.lines: List[Tuple[int, str]] = []
         interfaces = root.one("interfaces") or Element("interfaces", 0)
         self.interfaces = {one.name: one for one in interfaces.children}
         self.aliases = {one.value("name"): one for holder in root.all("aliases") for one in holder.all("alias")}

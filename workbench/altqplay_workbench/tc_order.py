@@ -12,7 +12,7 @@ from typing import Dict, List, NamedTuple, Tuple
 import numpy
 
 from .altq_text import Interface, Word
-from .headers import Reading
+from .marking import Marking
 from .pf_order import Placed
 from .services import number_in
 from .tc_classes import Device, handle
@@ -47,10 +47,9 @@ class Asked(NamedTuple):
 class Order(FilterReader):
     """The filters of a device, asked of the packets of a capture."""
 
-    def __init__(self, device: Device, interface: Interface, frames, marks, notes):
+    def __init__(self, device: Device, interface: Interface, marking: Marking, marks, notes):
         super().__init__(device, interface, notes)
-        self.reading = Reading(frames)
-        self.heads, self.marks = self.reading.headers(), marks
+        self.reading, self.heads, self.marks = marking.reading, marking.heads, marks
 
     def address(self, column: str, one) -> numpy.ndarray:
         """Which packets have an address under a mask; `column` is src or dst."""

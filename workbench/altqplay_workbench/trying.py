@@ -39,6 +39,7 @@ def add_arguments(parser: ArgumentParser) -> None:
     parser.add_argument("--meter", metavar="RULE", help="writes NAME.conf: one leaf with this conditioner, as 'srtcm CIR CBS EBS'")
     parser.add_argument("--bandwidth", metavar="RATE", default="8M", help="the link of --leaves and --meter, 8M without it")
     parser.add_argument("--seed", metavar="N", default="42", help="the seed of the play, 42 without it")
+    parser.add_argument("--shares", action="store_true", help="plays by `altqplay shares`, and prints how far the shares of siblings lay apart")
     parser.add_argument("--drops", action="store_true", help="prints the packets that were dropped alone")
     parser.add_argument("--line", metavar="COLUMNS", help=f"prints in one line these columns, of {COLUMNS}")
     parser.add_argument("--quiet", action="store_true", help="prints nothing")
@@ -80,13 +81,13 @@ def run(args: Namespace) -> int:
     interface = interface_named(config, args.interface)
     with new_file(f"{args.name}.pcap", "wb") as capture_file:
         capture_file.write(arrivals)
-    answer(args.program, ["play", "--config", config, "--interface", interface, "--seed", args.seed, "--arrivals", f"{args.name}.pcap",
-                          "--departures", f"{args.name}-out.pcap", "--fates", fates, "--stats", f"{args.name}-stats.csv"])
-    if args.quiet:
-        return 0
-    rows = shown(args, fates)
-    if args.line is not None:
-        print(" ".join(",".join(row) for row in chosen(rows, args.line)))
-    else:
-        csv.writer(sys.stdout, lineterminator="\n").writerows(rows)
+    said = answer(args.program, ["shares" if args.shares else "play", "--config", config, "--interface", interface, "--seed", args.seed,
+                                 "--arrivals", f"{args.name}.pcap", "--departures", f"{args.name}-out.pcap", "--fates", fates,
+                                 "--stats", f"{args.name}-stats.csv"])
+    if args.shares:
+        print(said, end="")
+    elif args.line is not None:
+        print(" ".join(",".join(row) for row in chosen(shown(args, fates), args.line)))
+    elif not args.quiet:
+        csv.writer(sys.stdout, lineterminator="\n").writerows(shown(args, fates))
     return 0

@@ -100,3 +100,20 @@ def test_a_service_that_no_file_of_this_machine_has(monkeypatch):
 
     monkeypatch.setattr(services.socket, "getservbyname", none)
     assert services.port_number("rsync") == 873 and services.port_number("nosuchservice") is None
+
+
+@pytest.mark.parametrize("line, word", [
+    ("include \"/etc/pf.queues\"", "include"), ("load anchor spam from \"/etc/pf.spam\"", "load"), ("set skip on { lo0, em0 }", "em0"),
+    ("scrub on em0 all set-tos lowdelay", "set-tos"), ("anchor \"x\" in on em1 {\npass out on em0 all queue b\n}", "in"),
+    ("table <t> persist file \"/etc/t\" { 10.0.0.1 }\npass out on em0 from <t> to any queue b", "<t>"), ("pass in on em1 all dnpipe 1", "dnpipe"),
+    ("pass in on em1 all dnqueue (1, 2)", "dnqueue")])
+def test_other_statements_that_decide(line, word):
+    _conf, _interfaces, notes = made_with(line + "\n")
+    assert [note.text for note in notes.all() if note.has_effect] == [word]
+
+
+@pytest.mark.parametrize("line", ["set skip on lo0", "set limit states 402000", "scrub on em0 all fragment reassemble", "anchor \"openvpn/*\"",
+                                  "table <sshguard> persist", "nat on em0 from 10.0.0.0/8 to any -> (em0)", "antispoof for em0", "no nat proto carp"])
+def test_other_statements_that_do_not(line):
+    _conf, _interfaces, notes = made_with(line + "\n")
+    assert not [note for note in notes.all() if note.has_effect]

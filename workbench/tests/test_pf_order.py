@@ -18,12 +18,12 @@ def classes(text, packets, folder, head=HEAD):
     """The class of each packet, or "blocked", by the classifier."""
     options = options_of("text", bandwidth=None, addresses={})
     notes = Notes("text")
-    lines, rules, (interface,) = importing.pf_parts(head + text, options, notes)
+    rules, (interface,) = importing.pf_parts(head + text, options, notes)
     name = str(folder / "a.pcap")
     with open(name, "wb") as file:
         file.write(classic(1, [(1000 * k, found, len(found)) for k, found in enumerate(packets)]))
     placed = pf_order.placed(interface, rules, Frames(name))
-    pf_order.notes_of_order(lines, rules, interface, [interface], notes)
+    pf_order.notes_of_order(rules, interface, [interface], notes)
     return ["blocked" if is_blocked else placed.classes[number] for number, is_blocked in zip(placed.of_class, placed.is_blocked)], placed, notes
 
 

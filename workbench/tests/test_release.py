@@ -101,7 +101,7 @@ def test_the_sum_has_names_and_lines(small):
 
 
 def test_what_may_not_be_kept(small):
-    assert "run rt ci here" in small.run("keep")[1]
+    assert "run rt ci, or" in small.run("keep")[1]
     small.build()
     small.write("crates/altqplay/out/stdout.by-rattle", "else\n")
     assert "rt ci did not pass" in small.run("keep")[1]

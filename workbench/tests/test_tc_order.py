@@ -8,6 +8,8 @@ from plain_pf import Packet, frame
 from altqplay_workbench import importing
 from altqplay_workbench.altq_text import Notes
 from altqplay_workbench.captures import Frames
+from altqplay_workbench.headers import Reading
+from altqplay_workbench.marking import Marking
 from altqplay_workbench.selectors import marks_of
 from altqplay_workbench.tc_order import Order
 from test_import import options_of
@@ -24,7 +26,8 @@ def placed(text, packets, folder, marks=()):
     name = str(folder / "a.pcap")
     with open(name, "wb") as file:
         file.write(classic(1, [(1000 * k, found, len(found)) for k, found in enumerate(packets)]))
-    found = Order(device, interface, Frames(name), marks_of(marks), notes).placed()
+    frames = Frames(name)
+    found = Order(device, interface, Marking(frames, Reading(frames)), marks_of(marks), notes).placed()
     return [int(found.classes[number].split(":")[1]) for number in found.of_class], [note.text for note in notes.all() if note.has_effect]
 
 

@@ -40,6 +40,12 @@ def test_two_leaves(altqwork, program, folder):
         "class hfsc if0 b root pshare 75 default", "filter if0 a 0 5004 0 0 udp"]
 
 
+def test_shares(altqwork, program, folder):
+    # a packet of 1,000 bytes takes 4 ms at the quarter of a: that is how far it leads, and twice that and 2 is the bound
+    words = ["try", "quarter", "--leaves", "ls 2M 0 2M", "ls 6M 0 6M", "--shares", "3x1000@0:5004", "6x1000@0"]
+    assert altqwork(*words) == (0, "a b gap 4000000 bound 8000002\n", "")
+
+
 def test_drops(altqwork, program, folder):
     # one packet is on the link when the fourth comes, and two may wait
     words = ["try", "full", "--leaves", "pshare 50", "pshare 50 qlimit 2", "1x1000@0", "3x1000@500000", "--drops"]
