@@ -13,6 +13,7 @@ from altqplay_workbench.faults import Missing
 from altqplay_workbench.rows import read_stats
 
 MOST_BYTES = 2_000_000
+LONG_WANTS = ["--want", "voice delay<=1.234567ms", "--want", "rest delay<100ms", "--want", "rest drop=0", "--want", "bulk rate>=1000000000.5"]
 
 
 @pytest.fixture(scope="module")
@@ -150,10 +151,12 @@ def test_status_is_1_where_a_packet_is_late(altqwork, office):
     assert status == 1 and "voice: 0 → 7 late" in said.splitlines()
 
 
-@pytest.mark.parametrize("width, scheme", [(1200, "light"), (1200, "dark"), (400, "light"), (400, "dark")])
-def test_nothing_is_cut_off(browse, office, width, scheme):
-    """At the width of a screen and of a phone, folded and unfolded: nothing stands beyond the right edge, and letters are 11 pixels or more."""
-    driver = browse(office[0] / "page.html", width, scheme)
+@pytest.mark.parametrize("width, scheme", [(1200, "light"), (1200, "dark"), (400, "light"), (400, "dark"), (1081, "light"), (1080, "light"), (720, "light"), (320, "light")])
+def test_nothing_is_cut_off(altqwork, browse, office, width, scheme):
+    """At the width of a screen, a window, paper and a phone, folded and unfolded: nothing stands beyond an edge, and letters are 11 pixels or more."""
+    folder, words = office
+    assert altqwork(*words[:-1], *LONG_WANTS, words[-1], folder / "page.html")[0] == 1
+    driver = browse(folder / "page.html", width, scheme)
     for opened in (False, True):
         driver.execute_script("document.querySelectorAll('details').forEach(one => { one.open = arguments[0] })", opened)
         assert driver.execute_script("return document.documentElement.scrollWidth <= document.documentElement.clientWidth")
