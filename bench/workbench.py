@@ -4,13 +4,14 @@
     workbench.py [PACKETS] [--program PROGRAM]
 
 PACKETS (1,000,000) come to seven classes of a link of 18 Mbit/s, which they fill to two thirds; `after` takes the real-time curve of the
-calls away. It works in a new folder, in memory where the machine has /dev/shm, and removes it at the end. For each command it prints its
+calls away. `why` asks for the last packet that is sent. It works in a new folder, in memory where the machine has /dev/shm, and removes it at the end. For each command it prints its
 status, seconds of processor time, of it and of the program that it calls, seconds by the clock, and the bytes of the page that it writes.
 """
 
 import argparse
 import os
 import random
+import subprocess
 import sys
 import tempfile
 
@@ -48,6 +49,11 @@ COMMANDS = {
     "late, two plays": ["late", *BOTH, *WANTS, "arrivals.pcap"],
     "report": ["report", "--config", "before.conf", "arrivals.pcap", "page.html"],
     "report, two plays": ["report", *BOTH, *WANTS, "arrivals.pcap", "page.html"],
+    "delays": ["delays", "--config", "before.conf", "before.csv", "after.csv"],
+    "why, one packet": ["why", "before.csv", "before.conf", "--packet", "LAST"],
+    "why, its story": ["why", "before.csv", "before.conf", "--packet", "LAST", "--story"],
+    "find": ["find", "before.conf", "--class", "voip", "--set", "rt=?", *WANTS[:2], "arrivals.pcap"],
+    "chain, a policer": ["chain", "--config", "before.conf", "--next", "police 16M burst 60k", *WANTS, "arrivals.pcap"],
 }
 
 
@@ -69,6 +75,17 @@ def write(count):
             at += chance.randrange(2 * GAP)
 
 
+def play(program):
+    """Plays both configurations here, and answers the last packet that is sent before the change."""
+    for name in ("before", "after"):
+        taken([program, "play", "--config", f"{name}.conf", "--interface", "if0", "--arrivals", "arrivals.pcap", "--departures", "departures.pcap",
+               "--fates", f"{name}.csv", "--stats", "stats.csv", "--seed", "42"], "said")
+    os.unlink("departures.pcap")
+    with open("before.csv", encoding="ascii") as file:
+        next(file)
+        return str(max(int(line.split(",", 1)[0]) for line in file if not line.endswith(",,\n")))
+
+
 def main():
     parser = argparse.ArgumentParser(description=__doc__, formatter_class=argparse.RawDescriptionHelpFormatter)
     parser.add_argument("packets", nargs="?", type=int, default=1_000_000)
@@ -79,9 +96,10 @@ def main():
     with tempfile.TemporaryDirectory(dir="/dev/shm" if os.path.isdir("/dev/shm") else None) as folder:
         os.chdir(folder)
         write(args.packets)
+        last = play(subprocess.run([os.path.join(ROOT, "release", "program")], stdout=subprocess.PIPE, check=True).stdout.decode().strip())
         print(f"{'':<20}{'status':>8}{'processor s':>13}{'clock s':>9}{'page':>9}")
         for label, words in COMMANDS.items():
-            status, clock, processor = taken([WORK, *words], "said")
+            status, clock, processor = taken([WORK, *(last if word == "LAST" else word for word in words)], "said")
             size = f"{os.path.getsize('page.html'):,}" if "page.html" in words else "-"
             print(f"{label:<20}{status:>8}{processor:>13.2f}{clock:>9.2f}{size:>9}")
         os.chdir(ROOT)
