@@ -287,6 +287,16 @@ def test_a_stranger_names_no_markup(altqwork, browse, program, tmp_path):
     assert browse(tmp_path / "page.html").execute_script("return document.querySelector('h1').textContent") == "<b>\\x1b[31m.conf"
 
 
+def test_classes_without_packets_are_named(altqwork, browse, program, tmp_path):
+    """Both packets are of `b`: no filter leads to `a`, which has a filter for another port, and `root` and `x` hold none."""
+    (tmp_path / "a.pcap").write_bytes(classic(1, [(5, bytes(12) + b"\x08\x00" + udp(80), 214)] * 2))
+    (tmp_path / "c.conf").write_text("interface if0 bandwidth 8M hfsc\nclass hfsc if0 root NULL pshare 100\nclass hfsc if0 x root pshare 50\n"
+                                     "class hfsc if0 a x pshare 50\nclass hfsc if0 b root pshare 50 default\nfilter if0 a 0 5004 0 0 17\n")
+    said = altqwork("report", "--config", tmp_path / "c.conf", tmp_path / "a.pcap", tmp_path / "page.html")[1]
+    assert said.endswith("page.html; 100.0 % of the packets are in the default class, b; no packet came to a\n")
+    assert "no packet came to a." in browse(tmp_path / "page.html").execute_script("return document.querySelector('p').textContent")
+
+
 @pytest.mark.parametrize("packets", [[], [(5, bytes(12) + b"\x08\x00" + udp(5004), 214)]])
 def test_few_packets(altqwork, browse, program, tmp_path, packets):
     (tmp_path / "a.pcap").write_bytes(classic(1, packets))
