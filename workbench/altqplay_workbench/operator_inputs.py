@@ -26,7 +26,7 @@ from .marking import GREATEST_RULE, Marking, filters
 from .headers import reading_of
 from .pf_order import Order as PfOrder
 from .pf_order import HERE_OUT, Placed, looks, notes_of_order
-from .selectors import marks_of
+from .packet_words import marks_of
 from .tc_order import Order as TcOrder
 from .tc_order import number_of
 

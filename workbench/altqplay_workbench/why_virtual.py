@@ -102,20 +102,6 @@ class Family:
         bounds = numpy.searchsorted(wake[order], numpy.arange(int(before[-1]) + 1))
         return bounds[before].tolist(), *(values[order].tolist() for values in (sibling, moved, total))
 
-    def owns(self) -> tuple[list[int], list[int]]:
-        """For each row by which a child becomes active after a pair of its own since its last row: at which place of `highs` its virtual time
-        stands, and how much above; -1 for any other."""
-        mark, more = numpy.full(len(self.rows), -1, dtype=numpy.int64), numpy.zeros(len(self.rows), dtype=numpy.int64)
-        of_row, of_pair = self.place[self.rows], self.place[self.pairs]
-        for number in range(len(self.nodes)):
-            rows, pairs = numpy.flatnonzero(of_row == number), numpy.flatnonzero(of_pair == number)
-            if len(rows) and len(pairs):
-                last = numpy.searchsorted(pairs, self.passed[rows]) - 1
-                pair = pairs[numpy.maximum(last, 0)]
-                is_own = (last >= 0) & (pair >= numpy.concatenate([[0], self.passed[rows[:-1]]]))
-                mark[rows[is_own]], more[rows[is_own]] = self.behind(pair[is_own])
-        return mark.tolist(), more.tolist()
-
     def behind(self, pair: numpy.ndarray) -> tuple[numpy.ndarray, numpy.ndarray]:
         """The high mark behind some pairs, as a place of `highs` and how much above."""
         last = numpy.searchsorted(self.passed, pair, side="right")
@@ -123,27 +109,27 @@ class Family:
 
     def columns(self) -> list[list]:
         """What `set` looks at, event by event: the child, whether it becomes active, what the pairs before it gained, by how much a child that
-        is no more active moved since its opening, what it was sent, and where its looks begin and end, and its own virtual time."""
+        is no more active moved since its opening, what it was sent, and where its looks begin and end."""
         begins, ends = self.stays()
         bounds, *self.seen = self.looks(begins, ends)
         is_over = ends < len(self.rows)
         moved = numpy.zeros(len(self.rows), dtype=object)
         moved[ends[is_over]] = self.gained(self.place[self.rows[begins[is_over]]], self.sent[self.rows[ends[is_over]]] - self.sent[self.rows[begins[is_over]]])
         gained = numpy.diff(numpy.concatenate([[0], self.sums[self.passed]]))
-        return [*(values[self.rows].tolist() for values in (self.place, self.wakes, self.sent)), gained.tolist(), moved.tolist(), bounds[:-1], bounds[1:], *self.owns()]
+        return [*(values[self.rows].tolist() for values in (self.place, self.wakes, self.sent)), gained.tolist(), moved.tolist(), bounds[:-1], bounds[1:]]
 
     def set(self) -> None:
         """Reckons the virtual times of the children, and the high mark."""
         opened, own, base, bends, highs, high = self.opened, self.own, self.base, self.bends, self.highs, 0
-        for one, wakes, sent, gained, moved, look, end, mark, more in zip(*self.columns()):
+        for one, wakes, sent, gained, moved, look, end in zip(*self.columns()):
             high += gained
             if not wakes:
                 virtual = own[one] = self.later(one, opened[one] + moved, sent) if bends[one] else opened[one] + moved
             else:
                 virtual = high
                 if look != end:
-                    virtual, mine = self.middle(look, end), own[one] if mark < 0 else highs[mark] + more
-                    virtual = mine if mine > virtual else virtual
+                    virtual = self.middle(look, end)
+                    virtual = own[one] if own[one] > virtual else virtual
                 opened[one] = virtual
                 if bends[one]:
                     self.bend(one, sent)

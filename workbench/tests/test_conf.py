@@ -31,7 +31,7 @@ def test_the_interface_that_is_named(program, tmp_path):
 
 @pytest.mark.parametrize("text, what", [("ext = em0\naltq on em0 cbq bandwidth 8Mb queue { a }\n", "a pf.conf"), ("<?xml version='1.0'?>\n<pfsense>\n", "config.xml"),
                                         ("tc qdisc add dev eth0 root handle 1: hfsc default 1\n", "lines of tc")])
-def test_another_kind_of_configuration_is_named(altqwork, program, tmp_path, text, what):
+def test_another_kind_of_configuration_is_named(altqwork, tmp_path, text, what):
     (tmp_path / "given").write_text(text)
     (tmp_path / "a.pcap").write_bytes(classic(1, []))
     status, _said, fault = altqwork("meter", "--config", tmp_path / "given", "--class", "a", tmp_path / "a.pcap")
