@@ -6,6 +6,8 @@ IPv6 are passed, as pf passes them, and TCP's flags, bare acknowledgements and t
 
 from __future__ import annotations
 
+from functools import lru_cache
+
 import numpy
 
 from .columns import distinct
@@ -69,6 +71,12 @@ class Headers:
             kinds, codes = distinct(word)
             found = distinct(found * len(kinds) + codes)[1]
         return numbered(found)[0]
+
+
+@lru_cache(maxsize=1)
+def reading_of(frames):
+    """The headers of a capture's frames, which two plays of it ask for."""
+    return Reading(frames)
 
 
 def packed(columns):

@@ -8,7 +8,7 @@ from hypothesis import HealthCheck, given, settings, strategies
 
 from altqplay_workbench.faults import Refused
 from altqplay_workbench.operator_inputs import Options, prepared
-from altqplay_workbench.selectors import Reader
+from altqplay_workbench.packet_words import Reader
 from test_import import HERE
 
 BY_OTHERS = os.path.join(os.path.dirname(HERE), "import_by_others")
