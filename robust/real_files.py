@@ -1,5 +1,5 @@
 #!/usr/bin/env python3
-"""Runs the built program on real files as a stranger may have them, and compares with docs/reference/MANUAL.md, "On real files".
+"""Runs the built program on real files as a stranger may have them, and compares with the rows of real_files.txt.
 
     real_files.py [--quick] [--program PROGRAM]
 
@@ -478,7 +478,7 @@ def differences(room, one, found):
     return told
 
 
-def is_as_stated(room, one, manual):
+def is_as_stated(room, one, stated):
     """Tries one line, says what came out otherwise, and returns whether all was as stated."""
     label = f"{one.row} ({', '.join(map(str, one.given))})"
     try:
@@ -488,8 +488,8 @@ def is_as_stated(room, one, manual):
         return True
     except Late:
         told = ["it did not end"]
-    if f"| {one.row} | {one.status if one.status >= 0 else 'signal'}" not in manual:
-        told.append("docs/reference/MANUAL.md has no such row")
+    if f"| {one.row} | {one.status if one.status >= 0 else 'signal'}" not in stated:
+        told.append("robust/real_files.txt has no such row")
     if told:
         print(f"{label}: {'; '.join(told)}")
     return not told
@@ -506,11 +506,11 @@ def main(words):
         print(f"real_files.py: nothing was tried, since there is no program {program}", file=sys.stderr)
         return 0 if is_quick else 1
     prepare()
-    manual = content(os.path.join(ROOT, "docs", "reference", "MANUAL.md")).decode()
+    stated = content(os.path.join(ROOT, "robust", "real_files.txt")).decode()
     tries = QUICK if is_quick else QUICK + DEMANDING
     with tempfile.TemporaryDirectory(prefix="altqplay-real-") as top:
         room = Room(top, program)
-        done = [is_as_stated(room, one, manual) for one in tries]
+        done = [is_as_stated(room, one, stated) for one in tries]
     if not (is_quick and all(done)):
         print(f"{sum(done)} of {len(done)} as stated")
     return 0 if all(done) else 1

@@ -39,7 +39,7 @@ def told_of_frames(frames: Frames, reading: Reading) -> List[str]:
     if is_other.any():
         kinds, counts = numpy.unique([named(kind) for kind in reading.kind[is_other].tolist()], return_counts=True)
         which = ", ".join(f"{count} {kind}" for count, kind in sorted(zip(counts.tolist(), kinds.tolist()), reverse=True))
-        lines.append(f"{int(is_other.sum())} frames of neither version of IP are in the default class: {which}")
+        lines.append(f"{int(is_other.sum())} frames of neither version of IP are in the default class, since no filter and no mark finds them: {which}")
     sizes = lengths(frames, reading)
     long = sizes - (reading.ip - 14) > LONGEST  # each tag before the packet takes four more
     if long.any():

@@ -55,10 +55,6 @@ class Marking:
         self.frames, self.reading, self.heads = frames, reading, reading.headers()
         self.base = free_base(self.heads)
 
-    def unmarked(self) -> int:
-        """How many frames are of neither version of IP."""
-        return int((self.heads.family == 0).sum())
-
     def write(self, name: str, of_class, names: List[str]) -> None:
         """Writes the marked copy."""
         data = numpy.frombuffer(bytearray(self.frames.data), dtype=numpy.uint8)
@@ -70,4 +66,4 @@ class Marking:
             for n in range(size):
                 data[starts[own] + offset + n] = marks[of_class[own], n]
         with open(name, "wb") as file:
-            file.write(memoryview(data[:self.frames.places[-1] + 16 + self.frames.captured[-1] if len(self.frames) else 24]))
+            data[:self.frames.places[-1] + 16 + self.frames.captured[-1] if len(self.frames) else 24].tofile(file)

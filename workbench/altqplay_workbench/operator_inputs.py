@@ -23,10 +23,10 @@ from .convert import converted, is_playable
 from .faults import Refused
 from .frames_told import told_of_frames
 from .marking import GREATEST_RULE, Marking, filters
-from .headers import Reading
+from .headers import reading_of
 from .pf_order import Order as PfOrder
-from .pf_order import Placed, notes_of_order
-from .selectors import marks_of
+from .pf_order import HERE_OUT, Placed, looks, notes_of_order
+from .packet_words import marks_of
 from .tc_order import Order as TcOrder
 from .tc_order import number_of
 
@@ -81,6 +81,11 @@ class Read(NamedTuple):
     unsaid: Notes
     classify: Optional[Callable[[Marking, Notes], Placed]]
     bare_text: str
+    has_blocks: bool = False
+
+    def needs_order(self) -> bool:
+        """Whether packets must be classified by the rules themselves: no filter says all of them, or some may be stopped."""
+        return self.has_blocks or any(note.has_effect for note in self.unsaid.all())
 
 
 def chosen(interfaces: Sequence[Any], name: Optional[str], config: str) -> int:
@@ -97,13 +102,14 @@ def read_foreign(config: str, text: str, kind: Optional[str], interface: Optiona
     """A configuration of pf or tc."""
     given = argparse.Namespace(file=config, kind=kind, interface=interface, bandwidth=importing.rate(options.bandwidth), default=options.default,
                                addresses=importing.addresses_of(options.address))
-    notes, unsaid = Notes(config), Notes(config)
+    notes, unsaid, has_blocks = Notes(config), Notes(config), False
     given.kind = kind or importing.kind(text, config)
     if given.kind != "tc":
         rules, interfaces = importing.pf_parts(text, given, notes)
         one = interfaces[chosen(interfaces, interface, config)]
         bare_text = text_of([one], notes)
         pf_filters.add_filters(rules, [one], unsaid)
+        has_blocks = any(rule.word.text == "block" and looks(rule, HERE_OUT, one.name) for rule in rules)
 
         def classify(marking, order_notes):
             notes_of_order(rules, one, interfaces, order_notes)
@@ -121,7 +127,7 @@ def read_foreign(config: str, text: str, kind: Optional[str], interface: Optiona
         unsaid.say(f"the rules would be {len(one.filters)} filters, and there are at most {MOST_FILTERS}", has_effect=True)
         one.filters = []
     try_all([one], notes)
-    return Read(text_of([one], notes), one.name, notes, unsaid, classify, bare_text)
+    return Read(text_of([one], notes), one.name, notes, unsaid, classify, bare_text, has_blocks)
 
 
 def read_config(config: str, interface: Optional[str], options: Options, marks: dict) -> Read:
@@ -164,13 +170,11 @@ def put_marks(placed: Placed, marks: dict, heads) -> None:
             raise Refused(f"--mark {name}: no class that holds packets has this name: {', '.join(placed.classes)}")
 
 
-def told_of(placed: Placed, marking: Marking) -> List[str]:
+def told_of(placed: Placed) -> List[str]:
     """What was done to the packets, in lines."""
-    count, blocked, unmarked = len(placed.of_class), int(placed.is_blocked.sum()), marking.unmarked()
+    count, blocked = len(placed.of_class), int(placed.is_blocked.sum())
     lines = [f"{count} packets were given their classes by the rules themselves: a marked copy is played, in which the target's address stands for"
              " the class; numbers and frames are those of the capture"]
-    if unmarked:
-        lines.append(f"{unmarked} frames of neither version of IP cannot be marked: they are in the default class")
     if blocked:
         where = ", ".join(map(str, placed.block_lines))
         lines.append(f"{blocked} packets would be stopped by a block rule (line {where}): they are played in the default class; leave them out of the capture")
@@ -188,9 +192,9 @@ def prepared(config: str, interface: Optional[str], captures: Sequence[str], fol
     shown, told = playable(captures, folder, options)
     frames = frames_of(shown)
     numbers = numpy.arange(len(frames) + 1)
-    reading = Reading(frames)
+    reading = reading_of(frames)
     told += told_of_frames(frames, reading)
-    if not selectors and not any(note.has_effect for note in read.unsaid.all()):
+    if not selectors and not read.needs_order():
         return Prepared(read.conf_text, read.interface, read.notes.all() + read.unsaid.all(), shown, captures[0], shown, numbers, told)
     marking, rule = Marking(frames, reading), 1
     if read.classify is None:
@@ -202,7 +206,7 @@ def prepared(config: str, interface: Optional[str], captures: Sequence[str], fol
     marking.write(arrivals, placed.of_class, placed.classes)
     names = [placed.classes[number] for number in placed.of_class.tolist()] if read.classify else None
     conf_text = read.bare_text + filters(read.interface, placed.classes, marking.base, rule)
-    return Prepared(conf_text, read.interface, read.notes.all(), arrivals, captures[0], shown, numbers, told + told_of(placed, marking), names)
+    return Prepared(conf_text, read.interface, read.notes.all(), arrivals, captures[0], shown, numbers, told + told_of(placed), names)
 
 
 def without_captures(config: str, interface: Optional[str], marks: Sequence[str] = (), options: Optional[Options] = None) -> Prepared:

@@ -13,7 +13,7 @@ import zlib
 
 from .faults import Missing, Refused
 
-PIECE = 1 << 16
+PIECE = 1 << 13  # what xz packs so well becomes at most some 60 MB at once
 FAULTS = (zlib.error, lzma.LZMAError, OSError, EOFError, ValueError)
 # The first bytes of what each packer writes, its name, and what unpacks one of its streams.
 PACKERS = [(b"\x1f\x8b", "gzip", lambda: zlib.decompressobj(31)), (b"BZh", "bzip2", bz2.BZ2Decompressor),

@@ -34,5 +34,5 @@ def test_the_interface_that_is_named(program, tmp_path):
 def test_another_kind_of_configuration_is_named(altqwork, tmp_path, text, what):
     (tmp_path / "given").write_text(text)
     (tmp_path / "a.pcap").write_bytes(classic(1, []))
-    status, _said, fault = altqwork("late", "--config", tmp_path / "given", tmp_path / "a.pcap")
+    status, _said, fault = altqwork("meter", "--config", tmp_path / "given", "--class", "a", tmp_path / "a.pcap")
     assert status == 2 and what in fault and "0 interfaces" not in fault

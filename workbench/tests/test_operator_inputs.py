@@ -97,7 +97,7 @@ def test_a_marked_copy_is_played(program, tmp_path, order):
         at += 16 + len(packet)
     assert len(ours) == len(theirs) and set(places) <= targets and places
     said = "\n".join(made.told)
-    assert "1 frames of neither version of IP cannot be marked" in said and "1 ARP" in said and "marked copy" in said
+    assert "1 frames of neither version of IP are in the default class, since no filter and no mark finds them: 1 ARP" in said and "marked copy" in said
 
 
 def test_the_type_of_service_is_as_it_was(program, tmp_path):
@@ -159,3 +159,12 @@ def test_the_machines_own_addresses(program, tmp_path):
     assert "line 5" in made.not_understood() and set(fates(made, tmp_path).values()) == {"rest"}
     made = prepared(str(tmp_path / "pf.conf"), None, [name], str(tmp_path / "folder"), options=Options(address=["(self)=10.0.0.2"]))
     assert made.not_understood() is None and fates(made, tmp_path) == {1: "rest", 2: "voip"}
+
+
+def test_what_a_block_rule_stops_is_counted(program, tmp_path):
+    """Filters alone would say the rest of these rules; what is stopped stands in no queue of theirs."""
+    (tmp_path / "pf.conf").write_text(PF + "block out quick on em0 proto udp from any to any port 5006\npass out on em0 proto udp all queue voip\n")
+    packets = [(ETHERNET + b"\x08\x00" + udp(port), 300) for port in (5004, 5005, 5006)]
+    made = prepared(str(tmp_path / "pf.conf"), None, [written(tmp_path, packets)], str(tmp_path / "folder"))
+    assert fates(made, tmp_path) == {1: "voip", 2: "voip", 3: "rest"}
+    assert "1 packets would be stopped by a block rule (line 5)" in "\n".join(made.told)

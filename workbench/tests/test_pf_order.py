@@ -67,7 +67,7 @@ def by_udp_of_outside(rules):
     return any(rule.direction == "in" and rule.on in ("", "em0") and rule.proto != "tcp" and rule.action == "pass" for rule in rules)
 
 
-@settings(max_examples=400, deadline=None)
+@settings(max_examples=300, deadline=None)
 @given(strategies.lists(RULE, max_size=7), strategies.lists(CONNECTION, min_size=1, max_size=4))
 def test_classes_are_those_of_a_plain_reading(tmp_path_factory, rules, connections):
     """The packets go through the plain machine; the capture has those alone that come to em0's queue."""
@@ -124,7 +124,8 @@ BY_HAND = [
     ("pass out on em0 proto tcp all queue (a, b)", [tcp(80, "S"), tcp(80, "A"), tcp(80, "A", 100), tcp(80, "FA"), tcp(80, "A", 100, tos=16)], "a b a b b"),
     ("pass out on em0 proto tcp all no state flags S/SA queue a", [tcp(80, "S"), tcp(80, "SA"), tcp(80, "A")], "a d d"),
     ("pass out on em0 inet proto icmp all icmp-type echoreq queue a", [icmp(8, 1), icmp(0, 2), icmp(3)], "a d d"),
-    ("pass in on em1 proto udp from any to any port 5060 tag CALL\npass out on em0 all\npass out on em0 tagged CALL queue a", [udp(5060), udp(5061)], "a d"),
+    ("pass in on em1 proto udp from any to any port 5060 tag CALL\npass out on em0 all\npass out on em0 tagged CALL queue a",
+     [udp(5060), udp(5061)], "a d"),
     ("pass out on em0 all queue a\npass out quick on em0 proto udp to any port 53 queue b\npass out on em0 proto udp all queue c", [udp(53), udp(54), tcp(1, "S")],
      "b c a"),
     ("match out on em0 proto udp all queue a\npass out on em0 all\nmatch out on em0 proto udp to port 53 queue b", [udp(53), udp(54), tcp(1, "S")], "b a d"),
@@ -157,6 +158,12 @@ def test_what_is_not_understood_is_said(tmp_path, text, word):
     found, _placed, notes = classes(text + "\n", [udp(1)], tmp_path)
     assert [note.text for note in notes.all() if note.has_effect] == [word]
     assert found == ["a" if "quick on" in text else "d"]
+
+
+def test_a_block_rule_of_addresses_that_are_not_in_the_file(tmp_path):
+    """What it would stop has its class by the others; that is said, and nothing of the classes is missing by it."""
+    found, _placed, notes = classes("table <bad> persist\nblock quick from <bad>\npass out on em0 all queue a\n", [udp(1)], tmp_path)
+    assert found == ["a"] and [(note.text, note.has_effect) for note in notes.all()] == [("<bad>", False)]
 
 
 def test_older_connections_and_frames_without_ip(tmp_path):
