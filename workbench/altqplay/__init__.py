@@ -16,6 +16,7 @@ from .checking import Checked, check
 from .playing import Chain, Play, chain, condition, make, play, shares
 from .running import Program, program
 from .tables import capture, fates
+from .verifying import Verified, verify
 
-__all__ = ["Chain", "Checked", "Missing", "Play", "Program", "Refused", "__version__", "capture", "chain", "check", "condition", "fates", "make", "play",
-           "program", "shares"]
+__all__ = ["Chain", "Checked", "Missing", "Play", "Program", "Refused", "Verified", "__version__", "capture", "chain", "check", "condition", "fates", "make", "play",
+           "program", "shares", "verify"]
