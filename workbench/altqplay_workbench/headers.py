@@ -1,6 +1,6 @@
 """The headers of a capture's frames in columns of numpy: what rules ask of a packet.
 
-Where the program finds a header is in docs/FRAMES.md; `family` is 0 where it finds none. Beyond that, extension headers of
+Where the program finds a header is in docs/reference/FRAMES.md; `family` is 0 where it finds none. Beyond that, extension headers of
 IPv6 are passed, as pf passes them, and TCP's flags, bare acknowledgements and the types of ICMP are read.
 """
 

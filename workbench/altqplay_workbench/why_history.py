@@ -142,6 +142,8 @@ class History:
         """What came and went of some classes together."""
         if len(places) == 1:
             return self.own(places[0])
+        if sum(len(self.came[one]) for one in places) == len(self.kept):
+            return Below(self, numpy.arange(len(self.kept)), numpy.arange(self.point.sendings))
         return Below(self, *(numpy.sort(numpy.concatenate([parts[one] for one in places])) for parts in (self.came, self.went)))
 
 

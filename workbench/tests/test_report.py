@@ -6,7 +6,7 @@ import shutil
 import subprocess
 
 import pytest
-from conftest import classic, example, udp
+from conftest import classic, data, example, udp
 
 from altqplay_workbench import browser
 from altqplay_workbench.faults import Missing
@@ -276,6 +276,15 @@ def test_a_pf_conf_in_one_command(altqwork, browse, office):
     driver = browse(folder / "pf.html")
     assert table(driver, "classes")["voice", "play"][0] == 200 and table(driver, "classes")["rest", "play"][0] == 420
     assert "line 5 word 12: user" in driver.execute_script("return document.querySelector('p.flag').textContent")
+
+
+def test_files_of_others_in_one_command(altqwork, browse, program, tmp_path):
+    """A pf.conf that another wrote, and a pcapng of Linux cooked packets: six of them come."""
+    config = os.path.join(os.path.dirname(data("")), os.pardir, "import_by_others", "01-hfsc-home.pf")
+    status, said, _fault = altqwork("report", "--config", config, "--arrivals", data("cooked2.pcapng"), tmp_path / "page.html")
+    assert status == 0 and said.startswith("6 packets in ")
+    shown = table(browse(tmp_path / "page.html"), "classes")
+    assert sum(numbers[0] for (name, _label), numbers in shown.items() if name != "all") == 6
 
 
 def test_a_stranger_names_no_markup(altqwork, browse, program, tmp_path):
