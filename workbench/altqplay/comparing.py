@@ -47,9 +47,10 @@ class Compared:
         return f"<altqplay.Compared: {len(self.packets)} packets changed, the first is {self.first}>"
 
 
-def compare(first: Sided, second: Sided) -> Compared:
+def compare(first: Sided, second: Sided, rules: bool = True) -> Compared:
     """Compares two plays of the same arrivals, each a play, a table of fates or a file of fates; rows of another program may say `sent`
-    and `dropped`, and stand in any order. `Refused` where they are of other packets, arrivals or lengths.
+    and `dropped`, and stand in any order. Without `rules` it does not matter by which rule a packet was sent or dropped. `Refused`
+    where they are of other packets, arrivals or lengths.
 
     >>> import altqplay
     >>> packets = pandas.DataFrame({"time_ns": [0, 0], "length": [1000, 1000]})
@@ -58,6 +59,8 @@ def compare(first: Sided, second: Sided) -> Compared:
     [[1, -500000], [2, -1000000]]
     """
     sides = [fates_of(one) for one in (first, second)]
+    if not rules:
+        sides = [side.assign(fate=["sent" if is_sent else "dropped" for is_sent in side["end"].notna()]) for side in sides]
     odd = sorted(set(sides[0]["number"]) ^ set(sides[1]["number"]))
     if odd:
         raise Refused(f"packet {odd[0]} stands in one play alone: not the same arrivals, or a play that was cut off")
