@@ -13,10 +13,12 @@ from altqplay_workbench import __version__
 from altqplay_workbench.faults import Missing, Refused
 
 from .checking import Checked, check
+from .comparing import Compared, Found, compare, find
 from .playing import Chain, Play, chain, condition, make, play, shares
 from .running import Program, program
+from .sweeping import sweep
 from .tables import capture, fates
 from .verifying import Verified, verify
 
-__all__ = ["Chain", "Checked", "Missing", "Play", "Program", "Refused", "Verified", "__version__", "capture", "chain", "check", "condition", "fates", "make", "play",
-           "program", "shares", "verify"]
+__all__ = ["Chain", "Checked", "Compared", "Found", "Missing", "Play", "Program", "Refused", "Verified", "__version__", "capture", "chain", "check", "compare", "condition", "fates", "find", "make", "play",
+           "program", "shares", "sweep", "verify"]

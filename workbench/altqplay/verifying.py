@@ -54,7 +54,7 @@ class Verified:
         return pandas.DataFrame(self.failures, columns=COLUMNS)
 
     def __repr__(self) -> str:
-        lines = [f"{len(self.failures) or 'none'} of the tests' rows fail" if self.failures else "verified"]
+        lines = [f"not verified, {len(self.failures)} {'failure' if len(self.failures) == 1 else 'failures'}:" if self.failures else "verified"]
         lines += [f"  line {one.line} (row {one.row}), packet {one.packet}, {one.test}: {one.found}, expected {one.expected}: {one.because}" for one in self.failures[:10]]
         lines += [f"  and {len(self.failures) - 10} more"] if len(self.failures) > 10 else []
         return Text("\n".join(lines + [f"  {remark}" for remark in self.remarks]))
