@@ -148,7 +148,8 @@ def test_no_scheduler_and_no_worker_are_told_within_seconds(tmp_path, monkeypatc
     with pytest.raises(altqplay.Missing, match="no scheduler answers"):
         altqplay.sweep(CONF, PACKETS, {}, scheduler=f"tcp://127.0.0.1:{port}")
     assert time.monotonic() - begun < 30
-    alone = subprocess.Popen([sys.executable, "-m", "distributed.cli.dask_scheduler", "--host", "127.0.0.1", "--port", str(port), "--no-dashboard"], stdout=subprocess.DEVNULL, stderr=subprocess.DEVNULL)
+    alone = subprocess.Popen([sys.executable, "-m", "distributed.cli.dask_scheduler", "--host", "127.0.0.1", "--port", str(port), "--no-dashboard"],
+                             stdout=subprocess.DEVNULL, stderr=subprocess.DEVNULL)
     try:
         monkeypatch.setattr(cluster, "SECONDS", 20)
         with pytest.raises(altqplay.Missing, match="has no worker"):
