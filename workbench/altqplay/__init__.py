@@ -20,5 +20,5 @@ from .sweeping import sweep
 from .tables import capture, fates
 from .verifying import Verified, verify
 
-__all__ = ["Chain", "Checked", "Compared", "Found", "Missing", "Play", "Program", "Refused", "Verified", "__version__", "capture", "chain", "check", "compare", "condition", "fates", "find", "make", "play",
-           "program", "shares", "sweep", "verify"]
+__all__ = ["Chain", "Checked", "Compared", "Found", "Missing", "Play", "Program", "Refused", "Verified", "__version__", "capture", "chain", "check",
+           "compare", "condition", "fates", "find", "make", "play", "program", "shares", "sweep", "verify"]

@@ -37,7 +37,8 @@ class Compared:
         moment = pandas.concat([both["start"].fillna(both["arrival"]), both["start_second"].fillna(both["arrival"])], axis=1).min(axis=1)
         self.first: Optional[int] = int(both.loc[moment[is_changed].idxmin(), "number"]) if is_changed.any() else None
         was, now = both["end"].notna(), both["end_second"].notna()
-        counts = pandas.DataFrame({"class": both["class"], "packets": 1, "dropped": was & ~now, "sent": ~was & now, "sooner": (both["moved"] < 0).fillna(False), "later": (both["moved"] > 0).fillna(False)})
+        counts = pandas.DataFrame({"class": both["class"], "packets": 1, "dropped": was & ~now, "sent": ~was & now,
+                                   "sooner": (both["moved"] < 0).fillna(False), "later": (both["moved"] > 0).fillna(False)})
         self.classes = counts.groupby("class", sort=False).sum().astype("int64").reset_index()
 
     def __bool__(self) -> bool:

@@ -128,17 +128,20 @@ def of_order(rows: Sequence[Row]) -> Iterator[Failure]:
             if drop is not None and drop.number >= row.number:
                 yield fail(row, 4, "order", f"packet {row.number}", f"before line {drop.row + 1}", f"packet {drop.number}, which arrived later, is dropped before it")
             elif start is not None and start.start is not None and start.start >= row.arrival:
-                yield fail(row, 4, "order", f"a drop at {row.arrival}", f"before line {start.row + 1}", f"packet {start.number} starts at {start.start} before it: a drop stands at its arrival, and before a sending of the same moment")
+                yield fail(row, 4, "order", f"a drop at {row.arrival}", f"before line {start.row + 1}",
+                           f"packet {start.number} starts at {start.start} before it: a drop stands at its arrival, and before a sending of the same moment")
             drop = row if drop is None or row.number > drop.number else drop
             dropped = row if dropped is None or row.arrival > dropped.arrival else dropped
             continue
         other = last.get(row.name)
         if dropped is not None and dropped.arrival > row.start:
-            yield fail(row, 4, "order", f"a start at {row.start}", f"before line {dropped.row + 1}", f"packet {dropped.number} is dropped at {dropped.arrival} before it: rows stand in the order of decision")
+            yield fail(row, 4, "order", f"a start at {row.start}", f"before line {dropped.row + 1}",
+                       f"packet {dropped.number} is dropped at {dropped.arrival} before it: rows stand in the order of decision")
         elif start is not None and start.start is not None and start.start > row.start:
             yield fail(row, 4, "order", f"a start at {row.start}", f"from {start.start} on", f"packet {start.number} starts later and stands before it: starts do not fall")
         elif other is not None and other.number >= row.number:
-            yield fail(row, 4, "order", f"packet {row.number}", f"before packet {other.number}", f"packet {other.number} of {row.name} arrived later and is sent first: a class sends in the order of arrival")
+            yield fail(row, 4, "order", f"packet {row.number}", f"before packet {other.number}",
+                       f"packet {other.number} of {row.name} arrived later and is sent first: a class sends in the order of arrival")
         start = row if start is None or row.start > (start.start or 0) else start
         last[row.name] = row if other is None or row.number > other.number else other
 
@@ -207,7 +210,8 @@ def of_due(link: Link, rows: Sequence[Row]) -> Iterator[Failure]:
     bound = link.time(max((row.length for row in rows if row.start is not None), default=0))
     for row, due in lateness(link, rows).values():
         if row.end is not None and row.end > due + bound:
-            yield fail(row, 9, "due moments", row.end, f"at most {due + bound}", f"by the real-time curve of {row.name} it is due at {due}, and one longest packet takes {bound} ns: it is {row.end - due} ns late")
+            yield fail(row, 9, "due moments", row.end, f"at most {due + bound}",
+                       f"by the real-time curve of {row.name} it is due at {due}, and one longest packet takes {bound} ns: it is {row.end - due} ns late")
 
 
 def of_causes(link: Link, rows: Sequence[Row]) -> Iterator[Failure]:
@@ -223,7 +227,8 @@ def of_causes(link: Link, rows: Sequence[Row]) -> Iterator[Failure]:
                 gone += 1
             waiting = len(kept) - gone
             if row.fate == "full" and waiting < queue.limit:
-                yield fail(row, 10, "causes", f"full with {waiting} waiting", f"{queue.limit} waiting", f"the limit of {name} is {queue.limit} packets, and the one on the link does not wait")
+                yield fail(row, 10, "causes", f"full with {waiting} waiting", f"{queue.limit} waiting",
+                           f"the limit of {name} is {queue.limit} packets, and the one on the link does not wait")
             elif row.fate != "full" and waiting >= queue.limit:
                 yield fail(row, 10, "causes", f"{row.fate} with {waiting} waiting", "full", f"the limit of {name} is {queue.limit} packets, and so many wait when it arrives")
             if row.start is not None:

@@ -48,8 +48,8 @@ class Room:
 class Play:
     """One play: what was played, and what became of it.
 
-    `config`, `arrivals`, `departures_file`, `fates_file` and `stats_file` are the paths of its files, `interface` what the
-    configuration means, `seed` the seed. Moments are nanoseconds since 1970-01-01 00:00:00 UTC, lengths bytes.
+    `config`, `arrivals`, `departures_file`, `fates_file` and `stats_file` are the paths of its files, which are there as long as the
+    play is (`save` copies them), `interface` is what the configuration means, `seed` the seed. Moments are nanoseconds since 1970-01-01 00:00:00 UTC, lengths bytes.
     """
 
     def __init__(self, room: Room, config: str, interface: Interface, arrivals: str, seed: int, program: Optional[str], left: Iterable[str] = LEFT) -> None:

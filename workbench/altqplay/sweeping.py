@@ -115,7 +115,7 @@ def played(task: Task, paths: Mapping[str, str]) -> list[dict[str, Any]]:
         rows = [(name, measured(side, side.class_is(name))) for name in side.classes()]
         return [{"class": name, **{metric: values[metric] for metric in task.metrics}, "answer": "ok"} for name, values in rows]
     except Refused as fault:
-        return [{"class": "-", **dict.fromkeys(task.metrics), "answer": str(fault)}]
+        return [{"class": "-", **dict.fromkeys(task.metrics), "answer": fault.brief()}]
 
 
 def key_of(task: Task, held: Mapping[str, str]) -> str:

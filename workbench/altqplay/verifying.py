@@ -189,7 +189,8 @@ class Judge:
             if record.at not in stamps:
                 yield given_tests.fail(row, 8, "departures", record.at, end, "the record's stamp is not the end; a stamp is when the last bit has left")
             elif record.length != row.length or record.data not in forms:
-                yield given_tests.fail(row, 8, "departures", f"{record.length} bytes, {record.data.hex()}", f"{row.length} bytes, {forms[0].hex()}", "the record is not the frame that came, with what its class changes of it")
+                yield given_tests.fail(row, 8, "departures", f"{record.length} bytes, {record.data.hex()}", f"{row.length} bytes, {forms[0].hex()}",
+                                       "the record is not the frame that came, with what its class changes of it")
         if len(sent) > len(left):
             row = sent[len(left)]
             yield given_tests.fail(row, 8, "departures", "no record", "a record", f"{len(sent)} packets were sent, and the departures have {len(left)} records")

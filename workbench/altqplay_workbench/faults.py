@@ -40,6 +40,11 @@ class Refused(Exception):
         self.status, self.kind, self.name, self.line, self.word, self.place = status, kind, name, line, word, place
         self.message, self.hint = message, hint
 
+    def brief(self) -> str:
+        """The text in one line: of what the program says the message and the first line, without the picture of the place."""
+        lines = [self.message, self.hint.splitlines()[0]] if self.message and self.hint else str(self).splitlines()
+        return ": ".join(line.strip() for line in lines)
+
     def __reduce__(self) -> tuple:
         return type(self), (str(self), self.status, self.kind, self.name, self.line, self.word, self.place, self.message, self.hint)
 

@@ -121,3 +121,8 @@ def test_the_program_is_named_with_its_version(program, monkeypatch):
 def test_import_says_nothing_and_needs_no_program():
     done = subprocess.run([sys.executable, "-B", "-c", "import altqplay; print(altqplay.__version__)"], cwd=os.path.join(ROOT, "workbench"), env={"PATH": "/nowhere"}, capture_output=True, check=False)
     assert done.returncode == 0 and done.stdout.strip() and not done.stderr
+
+
+@pytest.mark.parametrize("page", ["PYTHON.md", "SWEEPS.md"])
+def test_examples_of_pages(page):
+    assert doctest.testfile(os.path.join(ROOT, "docs", "teaching", page), module_relative=False).failed == 0

@@ -13,6 +13,7 @@ import pytest
 
 import altqplay
 from altqplay import sweeping
+from altqplay.inputs import capture_file
 
 CONF = """interface if0 bandwidth 8M hfsc
 class hfsc if0 root NULL pshare 100
@@ -45,7 +46,7 @@ def test_a_grid_is_a_tidy_table(tmp_path):
     table = altqplay.sweep(CONF, {"one": PACKETS}, grid, metrics=["packets", "full", "rate", "worst"])
     assert list(table.columns) == ["lo.qlimit", "hi.rt", "capture", "seed", "class", "packets", "full", "rate", "worst", "answer"]
     good, bad = table[table["answer"] == "ok"], table[table["answer"] != "ok"]
-    assert len(bad) == 2 and bad["answer"].str.contains("RateRange").all() and set(bad["hi.rt"]) == {"9999G"}
+    assert len(bad) == 2 and bad["answer"].str.contains("RateRange: altq.conf:3: 9999G: out of range").all() and not bad["answer"].str.contains("\n").any() and set(bad["hi.rt"]) == {"9999G"}
     alone = altqplay.play(CONF.replace("pshare 50 default", "pshare 50 qlimit 2 default").replace("pshare 50   # calls", "pshare 50 rt 2M 0 2M"), PACKETS)
     row = good[(good["lo.qlimit"] == 2) & (good["class"] == "lo")].iloc[0]
     assert row["full"] == alone.stats.set_index("class").loc["lo", "full"] > 0 and row["packets"] == 49
@@ -111,6 +112,34 @@ def test_a_cluster_whose_worker_is_killed_makes_the_same_table(scheduler):
 
 
 @needs_dask
+def test_the_command_line_plays_on_a_cluster(scheduler, altqwork, tmp_path):
+    address, _started = scheduler
+    config, capture = tmp_path / "altq.conf", tmp_path / "arrivals.pcap"
+    config.write_text(CONF)
+    capture_file(PACKETS, str(tmp_path))
+    tables = []
+    for more in ([], ["--scheduler", address]):
+        into = tmp_path / f"sweep{len(more)}"
+        status, _said, told = altqwork("sweep", config, "--set", "lo qlimit=1,2", "--no-plot", "--into", into, *more, "--arrivals", capture)
+        assert status == 0, told
+        tables.append((into / "table.csv").read_text())
+    assert tables[0] == tables[1] and tables[0].count("ok") == 4
+
+
+def test_a_file_that_a_worker_lacks_is_written_from_what_was_sent(tmp_path):
+    from altqplay import cluster
+
+    name = tmp_path / "here"
+    name.write_bytes(b"bytes")
+    held = cluster.digest(name)
+    assert cluster.path_here(str(name), held, None) == str(name)
+    made = cluster.path_here(str(tmp_path / "elsewhere"), held, b"bytes")
+    assert open(made, "rb").read() == b"bytes" and os.access(made, os.X_OK)
+    with pytest.raises(altqplay.Missing, match="elsewhere2"):
+        cluster.path_here(str(tmp_path / "elsewhere2"), held + "0", None)
+
+
+@needs_dask
 def test_no_scheduler_and_no_worker_are_told_within_seconds(tmp_path, monkeypatch):
     from altqplay import cluster
 
@@ -119,7 +148,8 @@ def test_no_scheduler_and_no_worker_are_told_within_seconds(tmp_path, monkeypatc
     with pytest.raises(altqplay.Missing, match="no scheduler answers"):
         altqplay.sweep(CONF, PACKETS, {}, scheduler=f"tcp://127.0.0.1:{port}")
     assert time.monotonic() - begun < 30
-    alone = subprocess.Popen([sys.executable, "-m", "distributed.cli.dask_scheduler", "--host", "127.0.0.1", "--port", str(port), "--no-dashboard"], stdout=subprocess.DEVNULL, stderr=subprocess.DEVNULL)
+    alone = subprocess.Popen([sys.executable, "-m", "distributed.cli.dask_scheduler", "--host", "127.0.0.1", "--port", str(port), "--no-dashboard"],
+                             stdout=subprocess.DEVNULL, stderr=subprocess.DEVNULL)
     try:
         monkeypatch.setattr(cluster, "SECONDS", 20)
         with pytest.raises(altqplay.Missing, match="has no worker"):
