@@ -24,6 +24,7 @@ TOP = "crates|docs|robust|bench|workbench|example"
 PATH = re.compile(rf"(?<![\w/.-])(?:\.\./)*((?:{TOP})/[\w./-]*[\w*]|\.ci/run|crates\.txt)")
 IN_CRATE = re.compile(r"(?<![\w/.-])([a-z][a-z0-9_]*)/((?:specs|src|proofs|must-fail)(?:/[\w.-]*\w)*)")
 MADE = re.compile(r"/(out|venv|results)(/|$)")  # what scripts make, and what is built
+OWN_TEST = "tests/test_pages.py"  # has names that are gone
 LINK = re.compile(r"\[[^\]]*\]\(([^)\s]+)\)")
 BEHIND = re.compile(r'\]\(([^)\s#]*\.md)[^)]*\)((?:,? (?:and )?"[^"]+")+)')
 BEFORE = re.compile(r'((?:"[^"]+"(?:, | and )?)+) of \[[^\]]*\]\(([^)\s#]+\.md)')
@@ -48,7 +49,7 @@ def text_of(path):
 def files(*patterns):
     """The files of some patterns, below the top, without what is made."""
     found = [os.path.relpath(name, ROOT) for pattern in patterns for name in glob.glob(os.path.join(ROOT, pattern), recursive=True)]
-    return sorted(name for name in found if os.path.isfile(os.path.join(ROOT, name)) and not MADE.search("/" + name))
+    return sorted(name for name in found if os.path.isfile(os.path.join(ROOT, name)) and not MADE.search("/" + name) and not name.endswith(OWN_TEST))
 
 
 PAGES = files("*.md", "docs/**/*.md", "bench/*.md", "crates/transcript/*.md")

@@ -1,8 +1,9 @@
 #!/usr/bin/env python3
 """Runs the commands that the pages show, and compares what comes out with what the pages show.
 
-Takes names of pages; without them README.md, all pages of docs/ and its folders, and robust/messages.txt are looked at. With --quiet
-before them it says nothing but what does not come out as shown and what was left out. It takes seconds, 100 MB of disk and 200 MB of memory.
+Takes names of pages; without them README.md, all pages of docs/ and its folders, and robust/messages.txt are looked at.
+With --quiet before them it says nothing but what does not come out as shown and what was left out. It takes two minutes,
+100 MB of disk and 200 MB of memory.
 
 A block of a page that is marked `console` holds commands and what they print, on standard output and standard
 error together. A line that begins with `$ ` is a command, lines that begin with `> ` continue it, and a line `...`

@@ -30,8 +30,7 @@ show() {
     "$@"
 }
 use() {
-    cp "$1"/*.py "$1"/*.conf .
-    show python3 office.py office.pcap
+    cp "$1"/office.* .
     files='--config office.conf --interface if0 --arrivals office.pcap --departures departures.pcap --fates fates.csv'
     show altqplay play $files --stats stats.csv --seed 42
     printf '%s\n' class,arrived,arrivedbytes,raised,sent,sentbytes,full,early,forced voice,200,42800,0,200,42800,0,0,0 \

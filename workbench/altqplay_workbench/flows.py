@@ -7,6 +7,7 @@ stand between are not passed over. It is for tables: the program's own rules of 
 from __future__ import annotations
 
 import ipaddress
+from functools import lru_cache
 from typing import Any
 
 import numpy
@@ -44,6 +45,12 @@ class Heads:
     def byte(self, offset: Any) -> numpy.ndarray:
         """The byte of each frame at an offset, one for all or one each."""
         return self.word(offset, 1)
+
+
+@lru_cache(maxsize=1)
+def heads_of(frames: Any) -> Heads:
+    """The captured bytes of a capture's frames, which several ask for."""
+    return Heads(frames)
 
 
 def columns(heads: Heads) -> list[numpy.ndarray]:
@@ -95,7 +102,7 @@ class Flows:
     """The flow of each record of a capture: `of[n - 1]` is that of packet n, a place of `names`."""
 
     def __init__(self, frames: Any) -> None:
-        found = columns(Heads(frames)) if len(frames) else []
+        found = columns(heads_of(frames)) if len(frames) else []
         codes = numpy.zeros(len(frames), dtype=numpy.int64)
         for values in found:
             kinds, own = distinct(values)

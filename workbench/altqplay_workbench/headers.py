@@ -1,15 +1,17 @@
 """The headers of a capture's frames in columns of numpy: what rules ask of a packet.
 
-Where the program finds a header is in docs/FRAMES.md; `family` is 0 where it finds none. Beyond that, extension headers of
+Where the program finds a header is in docs/reference/FRAMES.md; `family` is 0 where it finds none. Beyond that, extension headers of
 IPv6 are passed, as pf passes them, and TCP's flags, bare acknowledgements and the types of ICMP are read.
 """
 
 from __future__ import annotations
 
+from functools import lru_cache
+
 import numpy
 
 from .columns import distinct
-from .flows import Heads, numbered
+from .flows import heads_of, numbered
 
 TAGS, EXTENSIONS = (0x8100, 0x88A8), (0, 43, 44, 51, 60)
 TCP, UDP, ICMP, ICMP6, FRAGMENT, AH = 6, 17, 1, 58, 44, 51
@@ -71,6 +73,12 @@ class Headers:
         return numbered(found)[0]
 
 
+@lru_cache(maxsize=1)
+def reading_of(frames):
+    """The headers of a capture's frames, which two plays of it ask for."""
+    return Reading(frames)
+
+
 def packed(columns):
     """Some columns side by side in words of 64 bits, each as wide as its greatest value; those that are 0 everywhere are left out."""
     words, left = [], 0
@@ -95,7 +103,7 @@ class Reading:
     """Reads the headers of a capture's frames."""
 
     def __init__(self, frames):
-        self.heads = Heads(frames)
+        self.heads = heads_of(frames)
         base = numpy.full(len(frames), 12, dtype=numpy.int64)
         for _tag in range(2):
             base = numpy.where(numpy.isin(self.word(base), TAGS), base + 4, base)

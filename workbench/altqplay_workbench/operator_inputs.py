@@ -23,10 +23,10 @@ from .convert import converted, is_playable
 from .faults import Refused
 from .frames_told import told_of_frames
 from .marking import GREATEST_RULE, Marking, filters
-from .headers import Reading
+from .headers import reading_of
 from .pf_order import Order as PfOrder
 from .pf_order import HERE_OUT, Placed, looks, notes_of_order
-from .selectors import marks_of
+from .packet_words import marks_of
 from .tc_order import Order as TcOrder
 from .tc_order import number_of
 
@@ -192,7 +192,7 @@ def prepared(config: str, interface: Optional[str], captures: Sequence[str], fol
     shown, told = playable(captures, folder, options)
     frames = frames_of(shown)
     numbers = numpy.arange(len(frames) + 1)
-    reading = Reading(frames)
+    reading = reading_of(frames)
     told += told_of_frames(frames, reading)
     if not selectors and not read.needs_order():
         return Prepared(read.conf_text, read.interface, read.notes.all() + read.unsaid.all(), shown, captures[0], shown, numbers, told)

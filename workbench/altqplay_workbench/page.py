@@ -183,7 +183,7 @@ def html(question: Any, verdicts: Sequence[Sequence[wants.Verdict]], times: Time
     compared = f"<p>Worse and better are changes by more than 1 in {summary.CHANGE}.</p>" if len(sides) == 2 else ""
     drawing = Drawing(sides, [row[0].want for row in verdicts], part)
     heads = [f"{label}: {config}: {late.heading(side, times).split(': ', 1)[1]}" for side, (label, config) in zip(sides, question.configs)]
-    above = "".join(f"<p>{said(text)}</p>" for text in [*question.told, summary.default_texts(sides) + "."])
+    above = "".join(f"<p>{said(text)}</p>" for text in [*question.told, summary.share_text(sides) + "."])
     above += "".join(f'<p class="flag">{said(text)}</p>' for text in question.missing)
     unit = f"<p>Times are in {'nanoseconds' if times.exact else 'milliseconds; a time says its nanoseconds where the mouse rests on it'}.</p>"
     below = [folded("Numbers by class", unit + class_table(sides, times)), folded("Packets that wait, and rates, over time", drawing.loads()),

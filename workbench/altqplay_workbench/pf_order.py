@@ -15,7 +15,6 @@ import numpy
 
 from .altq_text import Interface, Notes
 from .asked import has_port
-from .columns import distinct
 from .flows import numbered
 from .headers import ACK, COLUMNS, SYN, TCP, Headers, Reading, first_rows
 from .pf_rules import Rule
@@ -147,8 +146,7 @@ class Order:
         """The verdicts of all packets, or of those that they answer, at two places that a packet passes one behind the other."""
         tags, found = numpy.zeros(len(kinds.of), dtype=numpy.int64), []
         for place in places:
-            of = numbered(distinct(kinds.of * len(self.tags) + tags)[1])[0]
-            rows = first_rows(of)
+            of, rows = numbered(kinds.of * len(self.tags) + tags)
             heads = (kinds.asked if is_asked else kinds.heads).at(rows)
             of_rows = tags[rows]
             own = self.verdicts(place, heads, kinds.is_older[rows] | is_asked, of_rows)

@@ -8,7 +8,7 @@ import sys
 import tempfile
 from collections import namedtuple
 
-from .faults import Missing, Refused
+from .faults import Missing, refusal
 
 HERE = os.path.dirname(os.path.abspath(__file__))
 RULE = os.path.join(os.path.dirname(os.path.dirname(HERE)), "release", "program")  # of the repository: prints the path of its program
@@ -61,8 +61,8 @@ def answer(named, words):
     done = subprocess.run([program(named), *words], stdout=subprocess.PIPE, stderr=subprocess.PIPE, stdin=subprocess.DEVNULL, check=False)
     said = done.stdout.decode("ascii", "replace")
     if done.returncode != 0:
-        told = (said + done.stderr.decode("ascii", "replace")).strip()
-        raise Refused(f"altqplay {words[0]}: status {done.returncode}: {told}")
+        hint = done.stderr.decode("ascii", "replace")
+        raise refusal(done.returncode, said, hint, f"altqplay {words[0]}: status {done.returncode}: {(said + hint).strip()}")
     return said
 
 

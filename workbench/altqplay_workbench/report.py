@@ -64,7 +64,7 @@ def span(side, begin, end):
 def told(args, question, verdicts, times):
     """What the command says: how much was played, what was not understood, and what is not well."""
     sides = question.sides
-    lines = [f"{len(sides[0])} packets in {args.page}; {summary.default_texts(sides)}", *question.missing]
+    lines = [f"{len(sides[0])} packets in {args.page}; {summary.share_text(sides)}", *question.missing]
     for line in summary.lines(sides, verdicts):
         lines += [f"{line.of}: {flag}" for flag in line.flags]
     return lines + wants.lines([side.label for side in sides], verdicts, times)

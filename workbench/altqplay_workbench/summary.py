@@ -97,7 +97,20 @@ def default_text(side: Any) -> str:
     return f"{share:.1f} % of the packets are in the default class, {name}"
 
 
+def empty_text(sides: Sequence[Any]) -> str:
+    """The classes without children to which no packet came in any play, whose filters may match nothing; "" where there are none."""
+    parents = {found.parent for side in sides for found in side.interface.classes.values()}
+    known = dict.fromkeys(name for side in sides for name in side.interface.classes if name not in parents)
+    found = [name for name in known if name not in plays.class_names(sides)]
+    return f"no packet came to {', '.join(found)}" if found else ""
+
+
+def share_text(sides: Sequence[Any]) -> str:
+    """What share of the packets is in the default class, and which classes have none."""
+    return "; ".join(text for text in (default_texts(sides), empty_text(sides)) if text)
+
+
 def default_texts(sides: Sequence[Any]) -> str:
-    """That of each play, once where they say the same."""
+    """The share of the default class in each play, once where they are the same."""
     told = [default_text(side) for side in sides]
     return told[0] if len(set(told)) == 1 else "; ".join(f"{side.label} {text}" for side, text in zip(sides, told))

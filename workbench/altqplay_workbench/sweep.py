@@ -11,8 +11,8 @@ table.csv in the folder has a row for each run and each class that holds packets
 failed. With --want, which may be given several times, the table also says of each class what the run makes of what is asked of it,
 and how much of that is not kept. plot.html draws the greatest delay and the drops of each class. A sweep that was cut off goes on where it stopped: what is done stands in runs.jsonl,
 and is made again only where the configuration, the capture, the seed or the program is another. --scheduler HOST:PORT plays by
-dask.distributed in place of this machine's processors: the captures, the program and this package stand at one path on all
-machines then. The exit status is 0 where all runs are done and keep each want, else 1.
+dask.distributed in place of this machine's processors; what a worker does not have of the package, the program and the captures is
+sent to it. The exit status is 0 where all runs are done and keep each want, else 1.
 """
 
 import hashlib
@@ -180,7 +180,7 @@ def played(run):
         names = dict.fromkeys([*holders(interface, stats), *(want.of for want in run.wants)])
         return [class_row(name, stats.get(name, dict.fromkeys(["arrived", *DROPPED], 0)), fates, run.wants) for name in names]
     except (Refused, Missing, OSError) as fault:
-        return [["-", "", "", "", "", "", *(["", ""] if run.wants else []), str(fault)]]
+        return [["-", "", "", "", "", "", *(["", ""] if run.wants else []), fault.brief() if isinstance(fault, Refused) else str(fault)]]
 
 
 def finished(name):
@@ -208,14 +208,15 @@ def local(runs, jobs):
 
 def remote(runs, scheduler):
     """Plays on the machines of a scheduler; each run with its rows, as it is done."""
-    try:
-        from dask import distributed
-    except ModuleNotFoundError:
-        raise Missing("dask.distributed is not installed: leave out --scheduler, or install it") from None
-    with distributed.Client(scheduler) as client:
-        waiting = {client.submit(played, run, pure=False): run for run in runs}
-        for future in distributed.as_completed(list(waiting)):
-            yield waiting[future], future.result()
+    from altqplay.cluster import Cluster
+
+    with Cluster(scheduler) as cluster:
+        yield from cluster.answers(played_there, runs, sorted({path for run in runs for path in (run.capture, run.program)}))
+
+
+def played_there(run, paths):
+    """One run on another machine, which has the capture and the program at these paths."""
+    return played(run._replace(capture=paths[run.capture], program=paths[run.program]))
 
 
 def all_played(args, runs):

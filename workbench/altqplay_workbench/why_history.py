@@ -136,23 +136,22 @@ class History:
         for child in range(place + 1, len(parents)):  # a class stands behind its parent
             if parents[child] in found:
                 found.add(child)
-        if len(found) == 1:
-            return self.own(place)
-        return Below(self, *(numpy.sort(numpy.concatenate([parts[one] for one in found])) for parts in (self.came, self.went)))
+        return self.of(sorted(found))
 
-    def empty(self) -> Point:
-        """The last point, up to this one, at which nothing waited."""
-        if len(self.kept) == self.point.sendings:
-            return self.point
-        gone = numpy.searchsorted(self.went_at, self.came_at)
-        last = int(numpy.flatnonzero(gone == numpy.arange(len(self.kept)))[-1])
-        return Point(int(self.kept[last]), last)
+    def of(self, places: list[int]) -> Below:
+        """What came and went of some classes together."""
+        if len(places) == 1:
+            return self.own(places[0])
+        if sum(len(self.came[one]) for one in places) == len(self.kept):
+            return Below(self, numpy.arange(len(self.kept)), numpy.arange(self.point.sendings))
+        return Below(self, *(numpy.sort(numpy.concatenate([parts[one] for one in places])) for parts in (self.came, self.went)))
 
 
 def grouped(values: numpy.ndarray, count: int) -> list[numpy.ndarray]:
     """Of some numbers below `count` the places of each, in rising order."""
     ends = numpy.cumsum(numpy.bincount(values, minlength=count))
-    return numpy.split(numpy.argsort(values, kind="stable"), ends[:-1])
+    kind = numpy.int16 if count < 2**15 else numpy.int64  # numpy sorts the former digit by digit
+    return numpy.split(numpy.argsort(values.astype(kind), kind="stable"), ends[:-1])
 
 
 def highest(slope: int, moments: numpy.ndarray, counts: numpy.ndarray) -> int:

@@ -1,24 +1,27 @@
 """The state of the rules at a point of a play, from what the fates tell of all before it (`why_history`): whole numbers, without a replay.
 
 HFSC has its state at any point. Counts, totals and openings follow at once; virtual times need a pass over the moments at which a class
-becomes active or no more, since a packet in between moves one by what its curve says. The credits of CBQ are 0 where nothing
-waits, so its play begins at such a point. Averages of CBQ and RED take a pass over their packets.
+becomes active or no more, since a packet in between moves one by what its curve says. Averages of CBQ and RED take a pass over
+their packets. The credits of CBQ are 0 where a class has nothing that waits, and of a class alone in its priority its own packets
+tell them; where several of a priority wait, `known_point` goes back to where none of them did.
 """
 
 from __future__ import annotations
 
-from bisect import bisect_left
+from dataclasses import dataclass
 
 import numpy
 
 from .rules.cbq import Cbq, Node as CbqNode, moved
+from .rules.classes import classes_of
 from .rules.curves import Openings
-from .rules.hfsc import Hfsc, Node
+from .rules.hfsc import Hfsc
 from .rules.packets import Packet
 from .rules.play import Play
 from .rules.queues import GAIN, SPACING, WEIGHT, Red, idled
 from .rules.units import BYTE
-from .why_history import Below, Columns, History, Point, Unordered, highest
+from .why_history import Below, Columns, History, Point, highest
+from .why_virtual import Family
 
 
 def packet_of(columns: Columns, packet: int, services: tuple[list[int], list[bool]] | None) -> Packet:
@@ -84,96 +87,43 @@ def set_hfsc(discipline: Hfsc, history: History) -> None:
         node.renew_opens()
 
 
-class Sibling:
-    """A child of a class with what its virtual time hangs on: the last opening, the highest line of its second slope where its curve falls,
-    and what went of it."""
+@dataclass
+class Waiting:
+    """The classes of a priority, of which some wait at a point: what came and went of them all, since which of the packets that came none
+    of them had nothing waiting, and the places of the classes that packets came to since."""
 
-    __slots__ = ("node", "m1", "m2", "d", "bend", "at", "base", "flat", "own", "went_at", "sums")
-
-    def __init__(self, node: Node, found: Below) -> None:
-        curve: Openings = node.sharing
-        self.node, self.m1, self.m2, self.d = node, curve.m1, curve.m2, curve.d
-        self.bend = (curve.m1 - curve.m2) * curve.d if curve.m1 > curve.m2 else 0
-        self.at, self.base, self.flat, self.own = 0, -1, 0, 0
-        self.went_at, self.sums = found.went_at.tolist(), found.sums.tolist()
-
-    def open(self, virtual: int, sent: int) -> None:
-        """Opens at a virtual time, when so many bytes were sent. A line through it is above those of all earlier openings, since it is not
-        before the virtual time that they give; of a curve that falls, only that of the first slope."""
-        if self.bend:
-            flat = self.m2 * virtual - BYTE * sent
-            self.flat = flat if self.base < 0 or flat > self.flat else self.flat
-        self.at, self.base = virtual, sent
-
-    def virtual(self, sent: int) -> int:
-        """The virtual time when so many bytes were sent; that of the last opening where none was since."""
-        if sent == self.base:
-            return self.at
-        gained = BYTE * (sent - self.base)
-        if self.bend:
-            return max(self.at - -gained // self.m1, -(-(BYTE * sent + self.flat - self.bend) // self.m2))
-        return self.at + self.d - -gained // self.m2
-
-    def set(self, is_active: bool) -> None:
-        """Gives the class its virtual time and its openings."""
-        if self.base >= 0:
-            sharing, units = self.node.sharing, BYTE * self.base
-            sharing.first = sharing.last = self.at, units
-            sharing.steep, sharing.flat = self.m1 * self.at - units, self.flat if self.bend else self.m2 * self.at - units
-            self.node.virtual = self.virtual(self.sums[-1]) if is_active else self.own
+    found: Below
+    since: int
+    places: list[int]
 
 
-class Family:
-    """The children of a class, and the events by which they become active or no more, in their order."""
-
-    def __init__(self, parent: Node, below: dict[int, Below]) -> None:
-        self.parent, founds = parent, [below[node.place] for node in parent.children]
-        if any(node.sharing is None or node.sharing.m2 == 0 for node in parent.children):
-            raise Unordered  # no such class is read
-        self.siblings = [Sibling(node, found) for node, found in zip(parent.children, founds)]
-        self.is_active = [found.is_active for found in founds]
-        places, at, sent, wakes = [], [], [], []
-        for number, found in enumerate(founds):
-            begins, ends = found.wakes, found.wakes[1:] if found.is_active else numpy.append(found.wakes[1:], len(found.came))
-            ends = ends[ends > 0]
-            at += [found.came_at[begins], found.went_at[ends - 1]]
-            sent += [found.sums[begins], found.sums[ends]]
-            wakes += [numpy.ones(len(begins), dtype=bool), numpy.zeros(len(ends), dtype=bool)]
-            places.append(numpy.full(len(begins) + len(ends), number))
-        order = numpy.argsort(numpy.concatenate(at), kind="stable")
-        self.events = [numpy.concatenate(values)[order].tolist() for values in (places, at, sent, wakes)]
-
-    def set(self) -> None:
-        """Reckons the virtual times of the children, and the high mark."""
-        siblings, high = self.siblings, 0
-        active: list[Sibling] = []
-        for place, at, sent, wakes in zip(*self.events):
-            one = siblings[place]
-            if wakes:
-                virtual = max(one.own, middle(active, at)) if active else high
-                one.open(virtual, sent)
-                active.append(one)
-            else:
-                virtual = one.own = one.virtual(sent)
-                active.remove(one)
-            if virtual > high:
-                high = virtual
-        for one, is_active in zip(siblings, self.is_active):
-            one.set(is_active)
-        self.parent.high = max([high] + [one.node.virtual for one in siblings])
+def waiting_of(history: History) -> list[Waiting]:
+    """The priorities of which something waits."""
+    priorities: dict[int, list[int]] = {}
+    for place, given in enumerate(classes_of(history.columns.interface)):
+        priorities.setdefault(given.priority, []).append(place)
+    told = []
+    for places in priorities.values():
+        found = history.of(places)
+        if found.is_active:
+            since = int(found.wakes[-1])
+            told.append(Waiting(found, since, numpy.unique(history.columns.of[history.kept[found.came[since:]]]).tolist()))
+    return told
 
 
-def middle(active: list[Sibling], at: int) -> int:
-    """The middle of the least and the greatest virtual time of active siblings at an event."""
-    if len(active) == 1:
-        one = active[0]
-        return one.virtual(one.sums[bisect_left(one.went_at, at)])
-    virtual = [one.virtual(one.sums[bisect_left(one.went_at, at)]) for one in active]
-    return (min(virtual) + max(virtual)) // 2
+def known_point(columns: Columns, point: Point) -> Point:
+    """The last point of CBQ, up to one, at which all credits are known: at which of each priority nothing waits, or has waited of one
+    class alone since nothing of the priority did."""
+    while True:
+        history = History(columns, point)
+        back = [int(history.kept[one.found.came[one.since]]) for one in waiting_of(history) if len(one.places) > 1]
+        if not back:
+            return point
+        point = columns.offered(min(back))
 
 
 def set_cbq(discipline: Cbq, history: History) -> None:
-    """What the classes of CBQ have by a point at which nothing waits, when all credits are 0."""
+    """What the classes of CBQ have by a point at which all credits are known."""
     columns = history.columns
     for node in discipline.members:
         found = history.below(node.place)
@@ -185,6 +135,19 @@ def set_cbq(discipline: Cbq, history: History) -> None:
         went = history.went[node.place]
         if len(went) and went[-1] > last[node.given.priority]:
             last[node.given.priority], discipline.cursors[node.given.priority] = int(went[-1]), node.place
+    for one in waiting_of(history):
+        node = discipline.members[one.places[0]]
+        node.credit = credit_of(node, columns.sent_length[one.found.went[one.since:]].tolist())
+
+
+def credit_of(node: CbqNode, lengths: list[int]) -> int:
+    """The credit of a class alone in its priority behind packets that it sent while it had more: each round gains it its quantum."""
+    credit, quantum = 0, node.quantum
+    for length in lengths:
+        if length > credit:
+            credit += -(-(length - credit) // quantum) * quantum
+        credit -= length
+    return credit
 
 
 def average_of(node: CbqNode, columns: Columns, went: numpy.ndarray) -> int:
@@ -260,7 +223,7 @@ class Averages:
         steps = numpy.maximum(0, self.arrival - since) // queue.step
         average, found = queue.averages[kind], []
         for count, idle in zip(waiting[moves].tolist(), steps[moves].tolist()):
-            average = average + GAIN * count - average // WEIGHT if count else idled(average, idle)
+            average = average + GAIN * count - average // WEIGHT if count else average if average < WEIGHT else idled(average, idle)
             found.append(average)
         queue.averages[kind] = average
         behind = numpy.zeros(len(moves), dtype=numpy.int64)

@@ -13,9 +13,9 @@ from .rows import FATES_HEAD, Fate
 from .rules.classes import classes_of
 from .rules.frames import is_capable, precedence
 from .rules.play import Play
-from .why_history import Columns, History, Point, Unordered
+from .why_history import Columns, Point, Unordered
 from .why_inputs import frames_of
-from .why_state import play_at
+from .why_state import known_point, play_at
 
 NEAR = 2000  # decisions that are replayed sooner than a state is told anew
 Services = Optional["tuple[list[int], list[bool]]"]
@@ -97,7 +97,7 @@ class Window:
 
 def parts_of(columns: Columns, packets: Sequence[int], moments: Sequence[int], whole: bool = False) -> list[Part]:
     """The parts that are told, in their order: of a packet its offer and its sending, or with `whole` all between them too; of a moment
-    what is decided at it. Parts that meet are one. With CBQ a part begins where nothing waited."""
+    what is decided at it. Parts that meet are one. With CBQ a part begins where all credits are known."""
     found = []
     for number in packets:
         offer, sending = columns.offered(number - 1), columns.sending_of(number - 1)
@@ -111,7 +111,7 @@ def parts_of(columns: Columns, packets: Sequence[int], moments: Sequence[int], w
             found.append(Part(offer, behind, (number,)))
     found += [Part(columns.at(moment), columns.behind(moment), moments=(moment,)) for moment in moments]
     if columns.interface.discipline == "cbq":
-        found = [replace(part, begin=History(columns, part.begin).empty()) for part in found]
+        found = [replace(part, begin=known_point(columns, part.begin)) for part in found]
     return list(merged(sorted(found, key=lambda part: (order(part.begin), order(part.end)))))
 
 

@@ -8,14 +8,14 @@ from hypothesis import HealthCheck, given, settings, strategies
 
 from altqplay_workbench.faults import Refused
 from altqplay_workbench.operator_inputs import Options, prepared
-from altqplay_workbench.selectors import Reader
+from altqplay_workbench.packet_words import Reader
 from test_import import HERE
 
 BY_OTHERS = os.path.join(os.path.dirname(HERE), "import_by_others")
 GIVEN = sorted(os.path.join(folder, name) for folder in (HERE, BY_OTHERS) for name in os.listdir(folder) if not name.endswith(".conf"))
-WORDS = ["", "$", "{", "}", "(", ")", "!", "port", "queue", "0", "10Mb", "match", "quick", "on", "from", "to", "10000:20000", "><", "tagged", "flags", "S/SA", "<t>", "tos", "ef",
-         "icmp-type", "::1", "10.0.0.0/8", "-", "65536", "in", "out", "block", "no", "state", "table", "anchor", "set", "skip", "em0", "em1", "egress", "handle", "fw", "at", "match",
-         "0xffff", "classid", "1:1", "dst_port", "1-9", "tcp_flags", "\"", "#", "\\", "\x1b[0m", "\u00fc"]
+WORDS = ["", "$", "{", "}", "(", ")", "!", "port", "queue", "0", "10Mb", "match", "quick", "on", "from", "to", "10000:20000", "><", "tagged", "flags",
+         "S/SA", "<t>", "tos", "ef", "icmp-type", "::1", "10.0.0.0/8", "-", "65536", "in", "out", "block", "no", "state", "table", "anchor", "set", "skip",
+         "em0", "em1", "egress", "handle", "fw", "at", "0xffff", "classid", "1:1", "dst_port", "1-9", "tcp_flags", "\"", "#", "\\", "\x1b[0m", "\u00fc"]
 
 
 def texts(name):
@@ -27,7 +27,8 @@ def one_capture(folder):
     """A capture with frames of some kinds."""
     name = folder / "a.pcap"
     if not name.exists():
-        packets = [ETHERNET + b"\x08\x00" + udp(port) for port in (53, 5060, 15000)] + [bytes(12) + b"\x86\xdd\x60" + bytes(60), bytes(14), b"", ETHERNET + b"\x88\x64" + bytes(30)]
+        packets = [ETHERNET + b"\x08\x00" + udp(port) for port in (53, 5060, 15000)]
+        packets += [bytes(12) + b"\x86\xdd\x60" + bytes(60), bytes(14), b"", ETHERNET + b"\x88\x64" + bytes(30)]
         name.write_bytes(classic(1, [(1000 * k, packet, 900) for k, packet in enumerate(packets)]))
     return str(name)
 
@@ -67,8 +68,8 @@ def test_changed_config_xml(tmp_path, data_):
 
 
 @settings(max_examples=300, deadline=None)
-@given(strategies.lists(strategies.sampled_from(["tcp", "udp", "src", "dst", "dport", "port", "not", "and", "ack", "flags", "tos", "proto", "10.0.0.1", "::/0", "1-9", "9-1", "x", "S/A",
-                                                 "ef", "-", ",", "ip6"]), max_size=5))
+@given(strategies.lists(strategies.sampled_from(["tcp", "udp", "src", "dst", "dport", "port", "not", "and", "ack", "flags", "tos", "proto", "10.0.0.1", "::/0",
+                                                 "1-9", "9-1", "x", "S/A", "ef", "-", ",", "ip6"]), max_size=5))
 def test_selectors_are_read_or_refused(words):
     try:
         selector = Reader(" ".join(words)).selector()
@@ -78,10 +79,12 @@ def test_selectors_are_read_or_refused(words):
 
 
 @settings(max_examples=200, deadline=None, suppress_health_check=[HealthCheck.function_scoped_fixture])
-@given(strategies.lists(strategies.binary(max_size=80), max_size=6), strategies.sampled_from([b"\x08\x00\x45", b"\x86\xdd\x60", b"\x81\x00\x00\x01\x08\x00\x4f", b"\x88\x64\x11\x00", b""]))
+@given(strategies.lists(strategies.binary(max_size=80), max_size=6),
+       strategies.sampled_from([b"\x08\x00\x45", b"\x86\xdd\x60", b"\x81\x00\x00\x01\x08\x00\x4f", b"\x88\x64\x11\x00", b""]))
 def test_any_frames(tmp_path, frames, head):
     """Frames of any bytes have a class; those that no header is found in have the default one."""
-    (tmp_path / "pf.conf").write_text("altq on em0 cbq bandwidth 8Mb queue { a b }\nqueue a cbq(default)\nqueue b\npass out on em0 proto { tcp udp } from any to any port 1:65535 flags any queue b\n")
+    (tmp_path / "pf.conf").write_text("altq on em0 cbq bandwidth 8Mb queue { a b }\nqueue a cbq(default)\nqueue b\n"
+                                      "pass out on em0 proto { tcp udp } from any to any port 1:65535 flags any queue b\n")
     (tmp_path / "f.pcap").write_bytes(classic(1, [(k, (bytes(12) + head + frame) * bool(head) + frame * (not head), 200) for k, frame in enumerate(frames)]))
     made = prepared(str(tmp_path / "pf.conf"), None, [str(tmp_path / "f.pcap")], str(tmp_path / "made"))
     assert len(made.classes) == len(frames) and set(made.classes) <= {"a", "b"}

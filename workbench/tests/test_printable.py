@@ -26,7 +26,8 @@ def test_nothing_else_is_said(text):
     assert printable_lines(text).count("\n") == text.count("\n")
 
 
-@pytest.mark.parametrize("line", [f"pass out on em0 from any to any user {ESCAPES} queue a\n", f"pass out on em0 {ESCAPES} queue a\n", f"pass out on em0 proto tcp from {ESCAPES} queue a\n",
+@pytest.mark.parametrize("line", [f"pass out on em0 from any to any user {ESCAPES} queue a\n", f"pass out on em0 {ESCAPES} queue a\n",
+                                  f"pass out on em0 proto tcp from {ESCAPES} queue a\n",
                                   f"block out on em0 to {ESCAPES} queue a\n", f"{ESCAPES} out on em0\n", f"altq on {ESCAPES} cbq\n"])
 def test_import_of_a_strangers_file(altqwork, tmp_path, line):
     (tmp_path / "pf.conf").write_text(PF + line)

@@ -27,7 +27,10 @@ class Small:
         for name in TOOLS:
             (self.kit / name).parent.mkdir(parents=True, exist_ok=True)
             (self.kit / name).write_text("GNU C Library (X) stable release version 2.34\n" if name.endswith("libc.so.6") else name)
-        self.write("../kit/rt", f'#!/bin/sh\ncase $1 in version) echo a kit;; doc) echo {self.kit}/START-HERE.md;; esac\n').chmod(0o755)
+        self.write("../kit/rt", f'''#!/bin/sh
+case $1 in version) echo a kit;; doc) echo {self.kit}/START-HERE.md;;
+ci) mkdir crates/altqplay/out && eval "echo ${{BUILT:-}}" >crates/altqplay/out/altqplay;; esac
+''').chmod(0o755)
         self.git("init", "-q")
         self.commit()
 
@@ -151,3 +154,9 @@ def test_other_bytes(small, fails):
     script.write_text(script.read_text().replace("OTHER_BYTES_FAIL=no", f"OTHER_BYTES_FAIL={fails}"))
     status, said = small.run("check")
     assert status == (fails == "yes") and "other bytes than the kept program" in said
+
+
+@pytest.mark.parametrize("built, status", [("the same", 0), ("$PWD", 1)])
+def test_two_builds_from_nothing(small, built, status):
+    done, said = small.run("check", "--anew", BUILT=built)
+    assert done == status and (said.endswith("has the same bytes\n") if status == 0 else said.endswith("has different bytes\n"))

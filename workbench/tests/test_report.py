@@ -6,13 +6,14 @@ import shutil
 import subprocess
 
 import pytest
-from conftest import classic, example, udp
+from conftest import classic, data, example, udp
 
 from altqplay_workbench import browser
 from altqplay_workbench.faults import Missing
 from altqplay_workbench.rows import read_stats
 
 MOST_BYTES = 2_000_000
+LONG_WANTS = ["--want", "voice delay<=1.234567ms", "--want", "rest delay<100ms", "--want", "rest drop=0", "--want", "bulk rate>=1000000000.5"]
 
 
 @pytest.fixture(scope="module")
@@ -150,10 +151,12 @@ def test_status_is_1_where_a_packet_is_late(altqwork, office):
     assert status == 1 and "voice: 0 → 7 late" in said.splitlines()
 
 
-@pytest.mark.parametrize("width, scheme", [(1200, "light"), (1200, "dark"), (400, "light"), (400, "dark")])
-def test_nothing_is_cut_off(browse, office, width, scheme):
-    """At the width of a screen and of a phone, folded and unfolded: nothing stands beyond the right edge, and letters are 11 pixels or more."""
-    driver = browse(office[0] / "page.html", width, scheme)
+@pytest.mark.parametrize("width, scheme", [(1200, "light"), (1200, "dark"), (400, "light"), (400, "dark"), (1081, "light"), (1080, "light"), (720, "light"), (320, "light")])
+def test_nothing_is_cut_off(altqwork, browse, office, width, scheme):
+    """At the width of a screen, a window, paper and a phone, folded and unfolded: nothing stands beyond an edge, and letters are 11 pixels or more."""
+    folder, words = office
+    assert altqwork(*words[:-1], *LONG_WANTS, words[-1], folder / "page.html")[0] == 1
+    driver = browse(folder / "page.html", width, scheme)
     for opened in (False, True):
         driver.execute_script("document.querySelectorAll('details').forEach(one => { one.open = arguments[0] })", opened)
         assert driver.execute_script("return document.documentElement.scrollWidth <= document.documentElement.clientWidth")
@@ -275,6 +278,15 @@ def test_a_pf_conf_in_one_command(altqwork, browse, office):
     assert "line 5 word 12: user" in driver.execute_script("return document.querySelector('p.flag').textContent")
 
 
+def test_files_of_others_in_one_command(altqwork, browse, program, tmp_path):
+    """A pf.conf that another wrote, and a pcapng of Linux cooked packets: six of them come."""
+    config = os.path.join(os.path.dirname(data("")), os.pardir, "import_by_others", "01-hfsc-home.pf")
+    status, said, _fault = altqwork("report", "--config", config, "--arrivals", data("cooked2.pcapng"), tmp_path / "page.html")
+    assert status == 0 and said.startswith("6 packets in ")
+    shown = table(browse(tmp_path / "page.html"), "classes")
+    assert sum(numbers[0] for (name, _label), numbers in shown.items() if name != "all") == 6
+
+
 def test_a_stranger_names_no_markup(altqwork, browse, program, tmp_path):
     """What stands in a file's name is text of the page, and of it printable characters alone."""
     (tmp_path / "a.pcap").write_bytes(classic(1, [(5, bytes(12) + b"\x08\x00" + udp(5004), 214)]))
@@ -282,6 +294,16 @@ def test_a_stranger_names_no_markup(altqwork, browse, program, tmp_path):
     (tmp_path / name).write_text("interface if0 bandwidth 8M hfsc\n")
     assert altqwork("report", "--config", tmp_path / name, tmp_path / "a.pcap", tmp_path / "page.html")[0] == 0
     assert browse(tmp_path / "page.html").execute_script("return document.querySelector('h1').textContent") == "<b>\\x1b[31m.conf"
+
+
+def test_classes_without_packets_are_named(altqwork, browse, program, tmp_path):
+    """Both packets are of `b`: no filter leads to `a`, which has a filter for another port, and `root` and `x` hold none."""
+    (tmp_path / "a.pcap").write_bytes(classic(1, [(5, bytes(12) + b"\x08\x00" + udp(80), 214)] * 2))
+    (tmp_path / "c.conf").write_text("interface if0 bandwidth 8M hfsc\nclass hfsc if0 root NULL pshare 100\nclass hfsc if0 x root pshare 50\n"
+                                     "class hfsc if0 a x pshare 50\nclass hfsc if0 b root pshare 50 default\nfilter if0 a 0 5004 0 0 17\n")
+    said = altqwork("report", "--config", tmp_path / "c.conf", tmp_path / "a.pcap", tmp_path / "page.html")[1]
+    assert said.endswith("page.html; 100.0 % of the packets are in the default class, b; no packet came to a\n")
+    assert "no packet came to a." in browse(tmp_path / "page.html").execute_script("return document.querySelector('p').textContent")
 
 
 @pytest.mark.parametrize("packets", [[], [(5, bytes(12) + b"\x08\x00" + udp(5004), 214)]])

@@ -10,7 +10,7 @@ from altqplay_workbench.altq_text import Notes
 from altqplay_workbench.captures import Frames
 from altqplay_workbench.headers import Reading
 from altqplay_workbench.marking import Marking
-from altqplay_workbench.selectors import marks_of
+from altqplay_workbench.packet_words import marks_of
 from altqplay_workbench.tc_order import Order
 from test_import import options_of
 

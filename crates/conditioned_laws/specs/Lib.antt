@@ -1,0 +1,3 @@
+pub mod Metered
+pub mod Conforming
+pub mod Rows

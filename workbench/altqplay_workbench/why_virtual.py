@@ -1,0 +1,181 @@
+"""The virtual times of HFSC at a point of a play, from what came and went of each class by then (`why_history`): exact, without a replay.
+
+The children of a class become active, and are no more, by events that the fates tell. Between two of them a child's virtual time is that
+of its last opening and what its curve says of the bytes since, which numpy reckons for all events at once. What is left to do one
+event after the other is where a child opens: at the high mark where no other is active, else in the middle of those that are, but
+never before its own virtual time. A line through an opening is above those of all earlier ones, since no opening is before the
+virtual time that they give; only of a curve that falls the second slope keeps its highest line.
+"""
+
+from __future__ import annotations
+
+import numpy
+
+from .rules.hfsc import Node
+from .rules.units import BYTE
+from .why_history import MOST, Below, Unordered
+
+MANY = 2**24  # looks at active siblings, more of which take more memory than a replay takes time
+
+
+class Family:
+    """The children of a class and their events, in order: of each the child's place among them (`place`), where it stands among all events
+    of the play (`at`), the bytes that the child was sent before it (`sent`), and whether the child becomes active or is no more.
+
+    A child whose curve does not fall may become active, and be no more, while no other is: then it moves the high mark, and itself to it, by
+    what its curve says of its bytes. Of such pairs of events, `pairs`, the sums of these `gains` are enough. `rows` are the other events, and
+    `passed` says how many pairs are before each; `highs` are the high marks behind them, the first that before all.
+    """
+
+    def __init__(self, parent: Node, below: dict[int, Below]) -> None:
+        self.parent, self.nodes = parent, parent.children
+        self.below, self.curves = [below[node.place] for node in self.nodes], [node.sharing for node in self.nodes]
+        if any(curve is None or curve.m2 == 0 for curve in self.curves):
+            raise Unordered  # no such class is read
+        self.bends = [(curve.m1 - curve.m2) * curve.d if curve.m1 > curve.m2 else 0 for curve in self.curves]
+        self.slopes = numpy.array([curve.m1 if bend else curve.m2 for curve, bend in zip(self.curves, self.bends)], dtype=numpy.int64)
+        self.waits = numpy.array([0 if bend else curve.d for curve, bend in zip(self.curves, self.bends)], dtype=numpy.int64)
+        self.place, self.at, self.sent, self.wakes = self.events()
+        self.pairs, self.gains = self.alone()
+        self.sums = numpy.concatenate([[0], numpy.cumsum(self.gains)])
+        is_other = numpy.ones(len(self.at), dtype=bool)
+        is_other[self.pairs], is_other[self.pairs + 1] = False, False
+        self.rows = numpy.flatnonzero(is_other)
+        self.passed = numpy.searchsorted(self.pairs, self.rows)
+        self.opened, self.base, self.own, self.flat = ([0] * len(self.nodes) for _ in range(4))
+        self.highs = [0]
+
+    def events(self) -> tuple[numpy.ndarray, ...]:
+        """The columns of all events."""
+        places, at, sent, wakes = [], [], [], []
+        for number, found in enumerate(self.below):
+            begins, ends = found.wakes, found.wakes[1:] if found.is_active else numpy.append(found.wakes[1:], len(found.came))
+            ends = ends[ends > 0]
+            at += [found.came_at[begins], found.went_at[ends - 1]]
+            sent += [found.sums[begins], found.sums[ends]]
+            wakes += [numpy.ones(len(begins), dtype=bool), numpy.zeros(len(ends), dtype=bool)]
+            places.append(numpy.full(len(begins) + len(ends), number, dtype=numpy.int64))
+        order = numpy.argsort(numpy.concatenate(at), kind="stable")
+        return tuple(numpy.concatenate(values)[order] for values in (places, at, sent, wakes))
+
+    def gained(self, places: numpy.ndarray, sizes: numpy.ndarray) -> numpy.ndarray:
+        """By how much bytes since its opening move a child, by its first slope where its curve falls."""
+        sizes = sizes.astype(object) if int(sizes.max(initial=0)) * BYTE >= MOST else sizes
+        return numpy.where(sizes > 0, self.waits[places] - -BYTE * sizes // self.slopes[places], 0)
+
+    def alone(self) -> tuple[numpy.ndarray, numpy.ndarray]:
+        """The first events of the pairs, and how each moves the high mark; none where 64 bits do not hold the sum."""
+        active = numpy.cumsum(numpy.where(self.wakes, 1, -1))
+        is_bent = numpy.array([bend > 0 for bend in self.bends], dtype=bool)[self.place]
+        pairs = numpy.flatnonzero(self.wakes & (active == 1) & numpy.append(active[1:] == 0, False)[:len(active)] & ~is_bent)
+        gains = self.gained(self.place[pairs], self.sent[pairs + 1] - self.sent[pairs])
+        if gains.dtype == object or int(gains.max(initial=0)) * len(pairs) >= MOST:
+            return pairs[:0], pairs[:0]
+        return pairs, gains
+
+    def stays(self) -> tuple[numpy.ndarray, numpy.ndarray]:
+        """By child, the rows by which one becomes active and is no more; the number of rows where it is active to the end."""
+        place, wakes = self.place[self.rows], self.wakes[self.rows]
+        order = numpy.argsort(place, kind="stable")
+        begins = numpy.flatnonzero(wakes[order])
+        behind = numpy.minimum(begins + 1, max(len(order) - 1, 0))
+        has_end = (begins + 1 < len(order)) & (place[order[behind]] == place[order[begins]]) if len(order) else begins > 0
+        return order[begins], numpy.where(has_end, order[behind], len(order)) if len(order) else begins
+
+    def looks(self, begins: numpy.ndarray, ends: numpy.ndarray) -> tuple[list[int], list[int], list[int], list[int]]:
+        """For each row how many looks at active siblings stand before it, and of each look the sibling, by how much it moved since its opening,
+        and what it was sent: those that are active where a child becomes so."""
+        wakes = self.wakes[self.rows]
+        before = numpy.concatenate([[0], numpy.cumsum(wakes)])
+        first, count = before[begins] + 1, before[ends] - before[begins] - 1
+        if int(count.sum()) > MANY:
+            raise Unordered
+        stay = numpy.repeat(numpy.arange(len(begins)), count)
+        wake = numpy.arange(len(stay)) - numpy.repeat(numpy.cumsum(count) - count, count) + numpy.repeat(first, count)
+        at, sibling = self.at[self.rows[numpy.flatnonzero(wakes)[wake]]], self.place[self.rows[begins]][stay]
+        total = numpy.zeros(len(stay), dtype=numpy.int64)
+        for number, found in enumerate(self.below):
+            own = sibling == number
+            total[own] = found.sums[numpy.searchsorted(found.went_at, at[own])]
+        moved = self.gained(sibling, total - self.sent[self.rows[begins]][stay])
+        order = numpy.argsort(wake, kind="stable")
+        bounds = numpy.searchsorted(wake[order], numpy.arange(int(before[-1]) + 1))
+        return bounds[before].tolist(), *(values[order].tolist() for values in (sibling, moved, total))
+
+    def behind(self, pair: numpy.ndarray) -> tuple[numpy.ndarray, numpy.ndarray]:
+        """The high mark behind some pairs, as a place of `highs` and how much above."""
+        last = numpy.searchsorted(self.passed, pair, side="right")
+        return last, self.sums[pair + 1] - numpy.concatenate([[0], self.sums[self.passed]])[last]
+
+    def columns(self) -> list[list]:
+        """What `set` looks at, event by event: the child, whether it becomes active, what the pairs before it gained, by how much a child that
+        is no more active moved since its opening, what it was sent, and where its looks begin and end."""
+        begins, ends = self.stays()
+        bounds, *self.seen = self.looks(begins, ends)
+        is_over = ends < len(self.rows)
+        moved = numpy.zeros(len(self.rows), dtype=object)
+        moved[ends[is_over]] = self.gained(self.place[self.rows[begins[is_over]]], self.sent[self.rows[ends[is_over]]] - self.sent[self.rows[begins[is_over]]])
+        gained = numpy.diff(numpy.concatenate([[0], self.sums[self.passed]]))
+        return [*(values[self.rows].tolist() for values in (self.place, self.wakes, self.sent)), gained.tolist(), moved.tolist(), bounds[:-1], bounds[1:]]
+
+    def set(self) -> None:
+        """Reckons the virtual times of the children, and the high mark."""
+        opened, own, base, bends, highs, high = self.opened, self.own, self.base, self.bends, self.highs, 0
+        for one, wakes, sent, gained, moved, look, end in zip(*self.columns()):
+            high += gained
+            if not wakes:
+                virtual = own[one] = self.later(one, opened[one] + moved, sent) if bends[one] else opened[one] + moved
+            else:
+                virtual = high
+                if look != end:
+                    virtual = self.middle(look, end)
+                    virtual = own[one] if own[one] > virtual else virtual
+                opened[one] = virtual
+                if bends[one]:
+                    self.bend(one, sent)
+                base[one] = sent + 1  # 0 is that of a child without an opening
+            if virtual > high:
+                high = virtual
+            highs.append(high)
+        self.finish(high + int(self.sums[-1]) - (int(self.sums[self.passed[-1]]) if len(self.passed) else 0))
+
+    def later(self, one: int, virtual: int, sent: int) -> int:
+        """The virtual time of a child that was sent so many bytes, by the second slope too where its curve falls."""
+        if not self.bends[one]:
+            return virtual
+        return max(virtual, -(-(BYTE * sent + self.flat[one] - self.bends[one]) // self.curves[one].m2))
+
+    def bend(self, one: int, sent: int) -> None:
+        """A child whose curve falls opens: the highest line of its second slope is kept."""
+        flat = self.curves[one].m2 * self.opened[one] - BYTE * sent
+        self.flat[one] = max(self.flat[one], flat) if self.base[one] else flat
+
+    def middle(self, look: int, end: int) -> int:
+        """The middle of the least and the greatest virtual time of those that some looks see."""
+        siblings, moved, total = self.seen
+        if end == look + 1:
+            one = siblings[look]
+            virtual = self.opened[one] + moved[look]
+            return self.later(one, virtual, total[look]) if self.bends[one] else virtual
+        found = [self.later(siblings[at], self.opened[siblings[at]] + moved[at], total[at]) for at in range(look, end)]
+        return (min(found) + max(found)) // 2
+
+    def finish(self, high: int) -> None:
+        """Gives each child its virtual time and its openings, and the class its high mark."""
+        of_row, of_pair = self.place[self.rows], self.place[self.pairs]
+        for one, (node, found) in enumerate(zip(self.nodes, self.below)):
+            rows, pairs = numpy.flatnonzero(of_row == one)[-1:], numpy.flatnonzero(of_pair == one)[-1:]
+            virtual = self.own[one]
+            if len(pairs) and (not len(rows) or pairs[0] >= self.passed[rows[0]]):
+                mark, more = self.behind(pairs)
+                virtual = self.highs[int(mark[0])] + int(more[0])
+                self.opened[one], self.base[one] = virtual - int(self.gains[pairs[0]]), int(self.sent[self.pairs[pairs[0]]]) + 1
+            elif found.is_active:
+                moved = self.gained(numpy.array([one]), numpy.array([found.total - self.base[one] + 1]))
+                virtual = self.later(one, self.opened[one] + int(moved[0]), found.total) if found.total >= self.base[one] else self.opened[one]
+            if self.base[one]:
+                sharing, units, at = node.sharing, BYTE * (self.base[one] - 1), self.opened[one]
+                sharing.first = sharing.last = at, units
+                sharing.steep, sharing.flat = sharing.m1 * at - units, self.flat[one] if self.bends[one] else sharing.m2 * at - units
+                node.virtual = virtual
+        self.parent.high = max([high] + [node.virtual for node in self.nodes])
