@@ -1,5 +1,5 @@
 -- A small tree, and options of its classes.
-use Rattle.std.specs.Prelude.{ℕ, List, [], ◌∷◌, codes}
+use Rattle.std.specs.Prelude.{zero, suc, ℕ, List, [], ◌∷◌, codes}
 use Rattle.conf_lines.specs.declared.item.Item.{Item}
 use Rattle.conf_lines.specs.declared.item.What.TheVariants as what
 use Rattle.conf_lines.specs.declared.options.Key.{Key}
@@ -25,3 +25,16 @@ small =
     Conditioner (codes "if0") (codes "a") ∷ Filter (codes "if0") (codes "b") ∷ Class Hfsc (codes "if0") (codes "b") (codes "a") default
     ∷ Class Hfsc (codes "if0") (codes "a") (codes "root") (curve key.Rt []) ∷ Class Hfsc (codes "if0") (codes "root") (codes "NULL") []
     ∷ Interface (codes "if0") Hfsc 8000000 ∷ []
+
+-- what may not stand
+abbrev pub Never : Type 0 → Type 0
+Never A = A → ⊥
+
+-- a root, and classes below it, each below the one before: the last is on level n + 1
+abbrev pub name_of : ℕ → List ℕ
+name_of zero = codes "a"
+name_of (suc n) = 98 ∷ name_of n
+
+abbrev pub chain : ℕ → List Saying
+chain zero = Class Hfsc (codes "if0") (name_of 0) (codes "NULL") [] ∷ []
+chain (suc n) = Class Hfsc (codes "if0") (name_of (suc n)) (name_of n) [] ∷ chain n

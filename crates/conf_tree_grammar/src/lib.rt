@@ -7,7 +7,7 @@ ghost use Rattle.conf_tree_grammar.specs.Laws.{AcceptedIsTree, TreeIsAccepted};
 
 mod rows;
 
-pub use rows::{worked_options, worked_trees};
+pub use rows::{worked_options, worked_places, worked_trees};
 
 /// Statements that are accepted say a tree of the grammar, and statements that say one are accepted.
 pub fn accepted_is_the_grammar()
