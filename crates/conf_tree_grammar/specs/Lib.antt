@@ -1,0 +1,5 @@
+pub mod Grammar
+pub mod Laws
+pub mod Options
+pub mod Rows
+pub mod Sayings
