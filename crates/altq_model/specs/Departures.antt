@@ -4,7 +4,7 @@ use Rattle.std.specs.Prelude.{◌≡◌, ℕ, Bool, List, [], ◌∷◌, ◌++�
 use Rattle.capture_model.specs.Capture.{Record}
 use Rattle.capture_model.specs.Written.{written}
 use Rattle.altq_model.specs.Arrivals.{Captured, arrival}
-use Rattle.altq_model.specs.History.{Event, Offered, Sent, Happened, was_marked}
+use Rattle.altq_model.specs.History.{Event, Offered, Sent, LabelledEvent, was_marked}
 
 -- the bytes with which a class's packet leaves, by those with which it came and by whether it is marked
 abbrev pub Dressing : Type 0
@@ -19,15 +19,15 @@ abbrev pub departure : Dressing → Captured → (marked : Bool) → (end : ℕ)
 departure dress a marked end = record { stamp = end; captured = dress a.class marked a.bytes; original = a.len }
 
 -- what an event adds, after a history
-abbrev pub departed_by : Dressing → List Captured → (n : ℕ) → Event → List Happened → List Record
+abbrev pub departed_by : Dressing → List Captured → (n : ℕ) → Event → List LabelledEvent → List Record
 departed_by dress arrived n (Offered a w v) g = []
 departed_by dress arrived n (Sent s) g = departure dress (arrival arrived n) (was_marked n g) s.end ∷ []
 
 -- the records of a history's sendings
-abbrev pub departed : Dressing → List Captured → List Happened → List Record
+abbrev pub departed : Dressing → List Captured → List LabelledEvent → List Record
 departed dress arrived [] = []
 departed dress arrived (e ∷ g) = departed dress arrived g ++ departed_by dress arrived e.label e.what g
 
 -- the departures of a history
-abbrev pub departures : Dressing → List Captured → List Happened → List ℕ
+abbrev pub departures : Dressing → List Captured → List LabelledEvent → List ℕ
 departures dress arrived g = written (departed dress arrived g)

@@ -38,14 +38,14 @@ pub data Event : Type 0 where
   Sent : Sending → Event
 
 -- an event and the label of its packet: its number in a play, its ticket in a discipline. No rule reads labels
-pub record Happened : Type 0 where
+pub record LabelledEvent : Type 0 where
   pub label : ℕ
   pub what : Event
 
 -- the events, whatever their labels are
-abbrev pub bare : List Happened → List Event
-bare [] = []
-bare (e ∷ g) = e.what ∷ bare g
+abbrev pub unlabelled : List LabelledEvent → List Event
+unlabelled [] = []
+unlabelled (e ∷ g) = e.what ∷ unlabelled g
 
 -- how many packets were offered
 abbrev pub offered : List Event → ℕ
@@ -93,7 +93,7 @@ abbrev pub labels_after : (c label : ℕ) → Event → List ℕ → List ℕ
 labels_after c label (Offered a w v) ns = with_offer (a.class == c) v.verdict label ns
 labels_after c label (Sent s) ns = without_head (s.class == c) ns
 
-abbrev pub labels : (c : ℕ) → List Happened → List ℕ
+abbrev pub labels : (c : ℕ) → List LabelledEvent → List ℕ
 labels c [] = []
 labels c (e ∷ g) = labels_after c e.label e.what (labels c g)
 
@@ -102,7 +102,7 @@ abbrev pub marked_after : (n label : ℕ) → Event → Bool → Bool
 marked_after n label (Offered a w v) before = if label == n then is_mark v.verdict else before
 marked_after n label (Sent s) before = before
 
-abbrev pub was_marked : (n : ℕ) → List Happened → Bool
+abbrev pub was_marked : (n : ℕ) → List LabelledEvent → Bool
 was_marked n [] = false
 was_marked n (e ∷ g) = marked_after n e.label e.what (was_marked n g)
 
@@ -121,6 +121,6 @@ decided n (Offered a w v) = dropped_by v.verdict n
 decided n (Sent s) = (n, TheVariants.Sent s.start s.end s.rule) ∷ []
 
 -- the journal: the decisions in their order, a drop at its offer and a sending at its start
-abbrev pub journal : List Happened → List Decision
+abbrev pub journal : List LabelledEvent → List Decision
 journal [] = []
 journal (e ∷ g) = journal g ++ decided e.label e.what

@@ -1,7 +1,7 @@
 -- What holds of every play, in words that name no rule.
 use Rattle.std.specs.Prelude.{◌≡◌, ◌≤◌, ◌<◌, ◌==◌, ◌&&◌, ◌+◌, ◌-◌, ◌^◌, ◌*◌, ℕ, nat_lt, nat_le, List, [], ◌∷◌, length, if◌then◌else◌, slice_get}
 use Rattle.std.specs.Option.{option_map_or}
-use Rattle.altq_model.specs.History.{Arrival, Event, Offered, Sent, Happened, bare, Decision, journal}
+use Rattle.altq_model.specs.History.{Arrival, Event, Offered, Sent, LabelledEvent, unlabelled, Decision, journal}
 use Rattle.altq_model.specs.Link.{HasLinkEnds}
 
 -- how often a number occurs in a list
@@ -23,7 +23,7 @@ abbrev pub sent_by : (c n : ℕ) → Event → List ℕ → List ℕ
 sent_by c n (Offered a w v) ns = ns
 sent_by c n (Sent s) ns = if s.class == c then n ∷ ns else ns
 
-abbrev pub sent_in : (c : ℕ) → List Happened → List ℕ
+abbrev pub sent_in : (c : ℕ) → List LabelledEvent → List ℕ
 sent_in c [] = []
 sent_in c (e ∷ g) = sent_by c e.label e.what (sent_in c g)
 
@@ -33,12 +33,12 @@ AllBelow m [] = Unit {0}
 AllBelow m (n ∷ ns) = (n < m) × AllBelow m ns
 
 -- this event follows in order: if it is a sending, its packet has a greater number than all that its class sent before
-abbrev pub FollowsInOrder : (n : ℕ) → Event → List Happened → Type 0
+abbrev pub FollowsInOrder : (n : ℕ) → Event → List LabelledEvent → Type 0
 FollowsInOrder n (Offered a w v) g = Unit {0}
 FollowsInOrder n (Sent s) g = AllBelow n (sent_in s.class g)
 
 -- in each class the numbers of the sendings rise
-abbrev pub IsOrdered : List Happened → Type 0
+abbrev pub IsOrdered : List LabelledEvent → Type 0
 IsOrdered [] = Unit {0}
 IsOrdered (e ∷ g) = FollowsInOrder e.label e.what g × IsOrdered g
 
@@ -51,7 +51,7 @@ StartsAfter arrived n (Offered a w v) = Unit {0}
 StartsAfter arrived n (Sent s) = at_of arrived n ≤ s.start
 
 -- no packet starts before it arrives
-abbrev pub IsNotBefore : List Arrival → List Happened → Type 0
+abbrev pub IsNotBefore : List Arrival → List LabelledEvent → Type 0
 IsNotBefore arrived [] = Unit {0}
 IsNotBefore arrived (e ∷ g) = StartsAfter arrived e.label e.what × IsNotBefore arrived g
 
@@ -68,12 +68,12 @@ IsPrompt (Offered a w v ∷ h) = StartsBefore a.at h × IsPrompt h
 IsPrompt (Sent s ∷ h) = IsPrompt h
 
 -- what holds of every play, whatever its policy
-pub record KeepsLaws (rate : ℕ) (arrived : List Arrival) (g : List Happened) : Type 0 where
+pub record KeepsLaws (rate : ℕ) (arrived : List Arrival) (g : List LabelledEvent) : Type 0 where
   pub conserved : IsConserved (length arrived) (journal g)
   pub ordered : IsOrdered g
   pub not_before : IsNotBefore arrived g
-  pub prompt : IsPrompt (bare g)
-  pub ends : HasLinkEnds rate (bare g)
+  pub prompt : IsPrompt (unlabelled g)
+  pub ends : HasLinkEnds rate (unlabelled g)
 
 -- the end of the clock, 2^32 seconds: the first moment that a capture cannot stamp. No packet may end at it or later
 abbrev pub clock_end : ℕ
@@ -84,7 +84,7 @@ EndsInTime (Offered a w v) = Unit {0}
 EndsInTime (Sent s) = s.end < clock_end
 
 -- each sending ends before the clock does
-abbrev pub IsInTime : List Happened → Type 0
+abbrev pub IsInTime : List LabelledEvent → Type 0
 IsInTime [] = Unit {0}
 IsInTime (e ∷ g) = EndsInTime e.what × IsInTime g
 

@@ -8,7 +8,7 @@ use Rattle.capture_model.specs.Capture.{Record}
 use Rattle.altq_model.specs.Arrivals.{arrivals_of, bare_arrivals}
 use Rattle.altq_model.specs.Counts.{counts_of_all}
 use Rattle.altq_model.specs.Departures.{Dressing, departures}
-use Rattle.altq_model.specs.History.{Decision, Happened, journal}
+use Rattle.altq_model.specs.History.{Decision, LabelledEvent, journal}
 use Rattle.altq_model.specs.Play.{Policy, play}
 use Rattle.altq_model.specs.Policies.{one_queue, strict}
 use Rattle.capture_model.specs.Rows.{plain}
@@ -17,7 +17,7 @@ use Rattle.capture_model.specs.Rows.{plain}
 abbrev pub one_mark : List ℕ → Placed
 one_mark frame = record { class = 1; prec = 0 }
 
-abbrev pub play_of : Policy → (rate : ℕ) → List Record → List Happened
+abbrev pub play_of : Policy → (rate : ℕ) → List Record → List LabelledEvent
 play_of p rate records = play p rate 42 (bare_arrivals (arrivals_of one_mark records))
 
 -- the journal of these records, played through one queue of 50

@@ -1,7 +1,7 @@
 -- What reads one after another gain.
 use Rattle.std.proofs.Common.{◌≡◌, ◌∙◌, ◌++◌, ℕ, List, [], ap, sym, append_assoc, append-nil}
 use Rattle.std.specs.Prelude.{◌≢◌}
-use Rattle.play_base.specs.View.{View, Any, Keeps, NoneAppears, Took, Unchanged}
+use Rattle.play_base.specs.View.{View, Everything, Keeps, NoneAppears, Took, Unchanged}
 use Rattle.play_base.proofs.ViewLaws.{keeps_fewer, keeps_trans, took_more, took_nothing}
 use Rattle.arrivals_front.specs.Taking.{Gained}
 
@@ -17,7 +17,7 @@ gained_more a b c file xs ys zs more e x y = record {
 
 -- but for the file nothing changes
 pub record Stays (a b : View) (file : ℕ) : Type 0 where
-  pub keeps : Keeps Any (λ f. f ≢ file) a b
+  pub keeps : Keeps Everything (λ f. f ≢ file) a b
   pub none : NoneAppears a b
   pub said : b.said ≡ a.said
 
@@ -28,7 +28,7 @@ stays_more a b c file xs ys more x y =
 
 pub stays_unchanged : (a b c : View) (file : ℕ) (xs ys : List ℕ) → Gained a b file xs ys → Unchanged b c → Stays a c file
 stays_unchanged a b c file xs ys x y = record {
-  keeps = keeps_trans Any (λ f. f ≢ file) a b c x.took.keeps (keeps_fewer Any Any Any (λ f. f ≢ file) b c (λ n h. tt) (λ f h. tt) y.keeps);
+  keeps = keeps_trans Everything (λ f. f ≢ file) a b c x.took.keeps (keeps_fewer Everything Everything Everything (λ f. f ≢ file) b c (λ n h. tt) (λ f h. tt) y.keeps);
   none = λ f h. y.none f (x.took.none f h);
   said = y.said ∙ x.took.said;
 }

@@ -1,6 +1,6 @@
 // Taking bytes of a file to the end of those that were taken before.
 ghost use Rattle.std.specs.Prelude.{◌≡◌, ◌≢◌, ◌⊎◌, ◌≤◌, ℕ, length, IsSome, OnOk, IsErrOf};
-ghost use Rattle.play_base.specs.View.{Any, IsAtEnd, Keeps, NoneAppears, ReadFault, SameCounts};
+ghost use Rattle.play_base.specs.View.{Everything, IsAtEnd, Keeps, NoneAppears, ReadFault, SameCounts};
 ghost use Rattle.arrivals_front.specs.Taking.{Gained};
 
 use play_base::{Files, Trouble};
@@ -23,7 +23,7 @@ pub fn take_to<F: Files>(
     ensures enough { OnOk result ((length taken.new.items ≡ wanted) ⊎ IsAtEnd (F.view files.new) file) }
     ensures most { length taken.new.items ≤ wanted }
     ensures failed { IsErrOf result Trouble.Failed → ReadFault (F.view files.old) (F.view files.new) file }
-    ensures keeps { Keeps Any (λ f. f ≢ file) (F.view files.old) (F.view files.new) }
+    ensures keeps { Keeps Everything (λ f. f ≢ file) (F.view files.old) (F.view files.new) }
     ensures none { NoneAppears (F.view files.old) (F.view files.new) }
     ensures said { (F.view files.new).said ≡ (F.view files.old).said }
     ensures no_fault { OnOk result (SameCounts (F.view files.old) (F.view files.new)) }

@@ -14,7 +14,7 @@ abbrev pub written : List Record → List ℕ
 written records = capture_header ++ record_texts records
 
 -- the record is within the limits of the format: its stamp is below 2^32 seconds
-pub record IsWithin (r : Record) : Type 0 where
+pub record FitsCapture (r : Record) : Type 0 where
   pub stamp : r.stamp < 2 ^ 32 * 10 ^ 9
   pub captured : length r.captured ≤ longest
   pub original : r.original ≤ longest
@@ -22,6 +22,6 @@ pub record IsWithin (r : Record) : Type 0 where
 
 -- so are the records together
 pub record AreWithin (records : List Record) : Type 0 where
-  pub each : All IsWithin records
+  pub each : All FitsCapture records
   pub count : length records ≤ most_records
   pub size : length (written records) ≤ most_bytes

@@ -2,7 +2,7 @@
 
 use crate::changes::add;
 use crate::words::{number, word};
-use line_text::{Word, ip4, ip6};
+use line_text::{Token, ip4, ip6};
 use std::alloc::Global;
 
 /// A packet that arrives.
@@ -46,7 +46,7 @@ fn protocol_of(text: &str) -> Option<u8> {
 }
 
 fn address_of(text: &str) -> Option<Address> {
-    let word = Word {
+    let word = Token {
         index: 1,
         parts: text.as_bytes(),
     };

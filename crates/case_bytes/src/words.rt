@@ -1,10 +1,10 @@
 // Numbers in words.
 
-use line_text::{Word, whole};
+use line_text::{Token, whole};
 
 /// A decimal number, or one of hexadecimal digits behind `0x`.
 pub fn number(text: &str) -> Option<u64> {
-    whole(&Word {
+    whole(&Token {
         index: 1,
         parts: text.as_bytes(),
     })

@@ -1,7 +1,7 @@
 -- What a discipline and its clock stand for, later on and after one more event.
 use Rattle.std.proofs.Common.{◌≡◌, ◌≤◌, ◌<◌, ◌+◌, ◌-◌, ◌^◌, ◌∙◌, ◌∷◌, ℕ, List, [], ap, sym, arith}
 use Rattle.altq_model.specs.declared.Verdict.{Verdict}
-use Rattle.altq_model.specs.History.{Arrival, DrawnWords, Event, Happened, Offered, Sent, bare}
+use Rattle.altq_model.specs.History.{Arrival, DrawnWords, Event, LabelledEvent, Offered, Sent, unlabelled}
 use Rattle.altq_model.specs.Lawful.{latest}
 use Rattle.altq_model.specs.Link.{Link, after_sending, link}
 use Rattle.altq_model.specs.Play.{Policy}
@@ -23,7 +23,7 @@ before_later t u l (Offered a w v ∷ h) s = before_later t u l h s
 before_later t u l (Sent x ∷ h) s = let first = s.0 in (omega (arith, l, first), before_later t u l h s.1)
 
 -- later on
-pub at_later : (stood : List Happened → Type 0) (clock : Clock) (most by before t u : ℕ) → by ≤ t → before ≤ u
+pub at_later : (stood : List LabelledEvent → Type 0) (clock : Clock) (most by before t u : ℕ) → by ≤ t → before ≤ u
     → IsAt stood clock most by before → IsAt stood clock most t u
 at_later stood clock most by before t u l m x =
     let arrived = x.arrived in
@@ -33,12 +33,12 @@ at_later stood clock most by before t u l m x =
       link_is = x.link_is;
       few = x.few;
       arrived = omega (arith, arrived, l);
-      started = starts_later by t l (bare x.told) x.started;
-      earlier = before_later before u m (bare x.told) x.earlier;
+      started = starts_later by t l (unlabelled x.told) x.started;
+      earlier = before_later before u m (unlabelled x.told) x.earlier;
     }
 
 -- after a question
-pub at_asked : (stood still : List Happened → Type 0) (clock : Clock) (most by before : ℕ) → ((h : List Happened) → stood h → still h)
+pub at_asked : (stood still : List LabelledEvent → Type 0) (clock : Clock) (most by before : ℕ) → ((h : List LabelledEvent) → stood h → still h)
     → IsAt stood clock most by before → IsAt still clock most by before
 at_asked stood still clock most by before k x = record {
   told = x.told;
@@ -51,8 +51,8 @@ at_asked stood still clock most by before k x = record {
 }
 
 -- the moment that a discipline stores has come
-pub moment_come : (stood : List Happened → Type 0) (clock : Clock) (most by before moment t : ℕ)
-    → ((h : List Happened) → stood h → (t : ℕ) → latest (bare h) ≤ t → StartsBy t (bare h) → moment ≤ t)
+pub moment_come : (stood : List LabelledEvent → Type 0) (clock : Clock) (most by before moment t : ℕ)
+    → ((h : List LabelledEvent) → stood h → (t : ℕ) → latest (unlabelled h) ≤ t → StartsBy t (unlabelled h) → moment ≤ t)
     → by ≤ t → IsAt stood clock most by before → moment ≤ t
 moment_come stood clock most by before moment t k l x =
     let y = at_later stood clock most by before t before l (omega arith) x in
@@ -64,16 +64,16 @@ link_sent old new h start len e r l =
     ap (λ k. after_sending k (link k h) start len) r ∙ ap (λ (k : Link). after_sending old.rate k start len) e ∙ sym l
 
 -- after a sending
-pub at_sent : (stood still : List Happened → Type 0) (old new : Clock) (most by before : ℕ) (s : Sending) → by ≤ s.start → s.start < before
+pub at_sent : (stood still : List LabelledEvent → Type 0) (old new : Clock) (most by before : ℕ) (s : Sending) → by ≤ s.start → s.start < before
     → new.rate ≡ old.rate → new.link ≡ after_sending old.rate old.link s.start s.len
-    → ((h : List Happened) → stood h → IsChoice s.start old (bare h) → still (sent_of s ∷ h))
+    → ((h : List LabelledEvent) → stood h → IsChoice s.start old (unlabelled h) → still (sent_of s ∷ h))
     → IsAt stood old most by before → IsAt still new most s.start before
 at_sent stood still old new most by before s l m r e k x =
     let y = at_later stood old most by before s.start before l (omega arith) x in
     record {
       told = sent_of s ∷ y.told;
       stands = k y.told y.stands (record { arrived = y.arrived; started = y.started; link = y.link_is });
-      link_is = link_sent old new (bare y.told) s.start s.len y.link_is r e;
+      link_is = link_sent old new (unlabelled y.told) s.start s.len y.link_is r e;
       few = y.few;
       arrived = y.arrived;
       started = (omega arith, y.started);
@@ -81,9 +81,9 @@ at_sent stood still old new most by before s l m r e k x =
     }
 
 -- after an offer
-pub at_offered : (stood still : List Happened → Type 0) (clock : Clock) (most : ℕ) (p : Policy) (ticket : Ticket) (w u : DrawnWords) (a : Arrival) (v : Verdict)
+pub at_offered : (stood still : List LabelledEvent → Type 0) (clock : Clock) (most : ℕ) (p : Policy) (ticket : Ticket) (w u : DrawnWords) (a : Arrival) (v : Verdict)
     → IsSized a.len → w.drawn < 2 ^ 64 - 1
-    → ((h : List Happened) → stood h → IsOffer a (bare h) → w.drawn < 2 ^ 64 - 1 → IsAnswer p (bare h) w a v u × still (offer_of p h ticket w a ∷ h))
+    → ((h : List LabelledEvent) → stood h → IsOffer a (unlabelled h) → w.drawn < 2 ^ 64 - 1 → IsAnswer p (unlabelled h) w a v u × still (offer_of p h ticket w a ∷ h))
     → IsAt stood clock most a.at a.at → IsAt still clock (most + 1) a.at a.at × (u.drawn ≤ w.drawn + 1)
 at_offered stood still clock most p ticket w u a v z d k x =
     let y = k x.told x.stands (record { sized = z; arrived = x.arrived; started = x.earlier }) d in

@@ -66,9 +66,9 @@ fn answer_of<D: Discipline, C: Classify>(
     requires few { length records.now ≤ 4000000 }
     requires least { 1000 ≤ rate }
     requires most { rate ≤ 10 ^ 12 }
-    requires rate { HasRate (D.link_rate discipline.old) rate }
-    requires new { D.stands discipline.old [] }
-    requires held { (frame : List ℕ) → IsOneOf (C.placed classify.now frame).class (D.policy discipline.old).classes }
+    requires rate { HasRate (D.view discipline.old).link_rate rate }
+    requires new { (D.view discipline.old).represents [] }
+    requires held { (frame : List ℕ) → IsOneOf (C.placed classify.now frame).class (D.view discipline.old).policy.classes }
     requires precs { (frame : List ℕ) → (C.placed classify.now frame).prec ≤ 2 }
 {
     let mut clock = LinkClock::new(rate);

@@ -3,7 +3,7 @@
 ghost use Rattle.std.specs.Prelude.{◌≡◌, ◌≤◌, ◌<◌, ◌^◌, IfSome, IsTrue, Some};
 ghost use Rattle.std.specs.Option.{ForSome};
 ghost use Rattle.service_curve.specs.Curve.{IsInRange};
-ghost use Rattle.runtime_curve.specs.Opening.{IsWithin, RisesFromZero};
+ghost use Rattle.runtime_curve.specs.Opening.{OpeningFits, RisesFromZero};
 ghost use Rattle.runtime_curve.specs.Running.{last_of};
 
 use case_bytes::number;
@@ -12,7 +12,7 @@ use service_curve::Curve;
 
 // The opening of these words.
 fn opening_of(at: &str, count: &str) -> Option<Opening>
-    ensures { IfSome result IsWithin }
+    ensures { IfSome result OpeningFits }
 {
     Some(Opening {
         at: u128::from(number(at)?),

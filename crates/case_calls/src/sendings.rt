@@ -27,13 +27,13 @@ fn turn<D: Discipline>(
 ) -> Option<u64>
     requires order { now ≤ till }
     requires early { till < 2 ^ 63 }
-    requires rate { HasRate (D.link_rate discipline.old) clock.old.rate }
-    requires at { (most : ℕ) × IsAt (D.stands discipline.old) clock.old most now till }
-    ensures at { (most : ℕ) → IsAt (D.stands discipline.old) clock.old most now till
-        → IsAt (D.stands discipline.new) clock.new most (unwrap_or result till) till }
+    requires rate { HasRate (D.view discipline.old).link_rate clock.old.rate }
+    requires at { (most : ℕ) × IsAt (D.view discipline.old).represents clock.old most now till }
+    ensures at { (most : ℕ) → IsAt (D.view discipline.old).represents clock.old most now till
+        → IsAt (D.view discipline.new).represents clock.new most (unwrap_or result till) till }
     ensures order { IfSome result (λ t. t ≤ till) }
-    ensures rate { HasRate (D.link_rate discipline.new) clock.new.rate }
-    ensures policy { D.policy discipline.new ≡ D.policy discipline.old }
+    ensures rate { HasRate (D.view discipline.new).link_rate clock.new.rate }
+    ensures policy { (D.view discipline.new).policy ≡ (D.view discipline.old).policy }
 {
     let start = clock.free().max(now);
     if start >= till {
@@ -69,12 +69,12 @@ fn turn<D: Discipline>(
 fn send_before<D: Discipline>(discipline: &mut D, clock: &mut LinkClock, from: u64, till: u64)
     requires order { from ≤ till }
     requires early { till < 2 ^ 63 }
-    requires rate { HasRate (D.link_rate discipline.old) clock.old.rate }
-    requires at { (most : ℕ) × IsAt (D.stands discipline.old) clock.old most from from }
-    ensures at { (most : ℕ) → IsAt (D.stands discipline.old) clock.old most from from
-        → IsAt (D.stands discipline.new) clock.new most till till }
-    ensures rate { HasRate (D.link_rate discipline.new) clock.new.rate }
-    ensures policy { D.policy discipline.new ≡ D.policy discipline.old }
+    requires rate { HasRate (D.view discipline.old).link_rate clock.old.rate }
+    requires at { (most : ℕ) × IsAt (D.view discipline.old).represents clock.old most from from }
+    ensures at { (most : ℕ) → IsAt (D.view discipline.old).represents clock.old most from from
+        → IsAt (D.view discipline.new).represents clock.new most till till }
+    ensures rate { HasRate (D.view discipline.new).link_rate clock.new.rate }
+    ensures policy { (D.view discipline.new).policy ≡ (D.view discipline.old).policy }
 {
     let mut now = from;
     for _ in 0..MOST_TURNS {
@@ -96,12 +96,12 @@ pub fn play_until<D: Discipline, C: Classify>(
 )
     requires early { moment < 2 ^ 63 }
     requires few { length records.now ≤ 4000000 }
-    requires rate { HasRate (D.link_rate discipline.old) clock.old.rate }
-    requires new { IsAt (D.stands discipline.old) clock.old 0 0 0 }
-    requires held { (frame : List ℕ) → IsOneOf (C.placed classify.now frame).class (D.policy discipline.old).classes }
+    requires rate { HasRate (D.view discipline.old).link_rate clock.old.rate }
+    requires new { IsAt (D.view discipline.old).represents clock.old 0 0 0 }
+    requires held { (frame : List ℕ) → IsOneOf (C.placed classify.now frame).class (D.view discipline.old).policy.classes }
     requires precs { (frame : List ℕ) → (C.placed classify.now frame).prec ≤ 2 }
-    ensures at { (most : ℕ) × IsAt (D.stands discipline.new) clock.new most moment moment }
-    ensures rate { HasRate (D.link_rate discipline.new) clock.new.rate }
+    ensures at { (most : ℕ) × IsAt (D.view discipline.new).represents clock.new most moment moment }
+    ensures rate { HasRate (D.view discipline.new).link_rate clock.new.rate }
 {
     let mut words = Words::new(SEED);
     let mut latest = 0u64;

@@ -5,7 +5,7 @@ use Rattle.std.proofs.lemmas.Bool.Decides.{nat_tests}
 use Rattle.play_base.specs.Units.{time_of}
 use Rattle.altq_model.specs.Link.{Link, end_of}
 use Rattle.cbq_estimator.specs.Average.{Pace, Ended}
-use Rattle.cbq_estimator.specs.Estimate.{Estimate, StandsFor}
+use Rattle.cbq_estimator.specs.Estimate.{Estimate, Represents}
 use Rattle.cbq_estimator.specs.Now.{IsLeastStartNow, after_end, allows_now, estimate_of, start_now, wanted_now}
 use Rattle.cbq_estimator.specs.Starts.{enough}
 use Rattle.cbq_estimator.proofs.Starting.{early_end, late_enough, later_end, left_one, or_false, or_true, too_early}
@@ -49,7 +49,7 @@ pub least : (e : Estimate) (rate : ℕ) (l : Link) (now len : ℕ) → l.free �
 least e rate l now len free =
     least_by e rate l now len (int_lt (pos 0) e.average) (nat_le (wanted_now e len) (end_of rate l now len)) refl refl free
 
-pub kept : (e : Estimate) (h : List Ended) → StandsFor e h → e ≡ estimate_of e.pace h
+pub kept : (e : Estimate) (h : List Ended) → Represents e h → e ≡ estimate_of e.pace h
 kept e h s = rw (← s.average, ← s.last) refl
 
 pub ended : (p : Pace) (h : List Ended) (e : Ended) → after_end (estimate_of p h) e ≡ estimate_of p (e ∷ h)

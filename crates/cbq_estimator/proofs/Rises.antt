@@ -6,7 +6,7 @@ use Rattle.std.proofs.lemmas.Nat.{mul-le}
 use Rattle.std.proofs.lemmas.Int.{ints, clamps}
 use Rattle.play_base.specs.Units.{units, ceil_div, time_of}
 use Rattle.link_clock.proofs.Rounded.{le_ceil, ceil_le}
-use Rattle.cbq_estimator.specs.Average.{Pace, Ended, average, decayed, idle, last_end, IsInOrder}
+use Rattle.cbq_estimator.specs.Average.{Pace, Ended, average, decayed, idle, last_end, EndsAreInOrder}
 use Rattle.cbq_estimator.specs.Starts.{enough, allows}
 use Rattle.cbq_estimator.specs.Capped.{AreAllowed, bytes, RisesByIdleTime, KeepsItsRate}
 
@@ -54,7 +54,7 @@ one_more a b next i first last end own total s order is rise = record {
   rise = omega (arith, ints, s.order, s.rise, is, rise);
 }
 
-summed : (p : Pace) (es : List Ended) (b : Ended) (h : List Ended) → IsInOrder (es ++ b ∷ h) → AreAllowed p es (b ∷ h)
+summed : (p : Pace) (es : List Ended) (b : Ended) (h : List Ended) → EndsAreInOrder (es ++ b ∷ h) → AreAllowed p es (b ∷ h)
     → Summed (average p (b ∷ h)) (average p (es ++ b ∷ h)) b.end (last_end (es ++ b ∷ h)) (times p es)
 summed p [] b h order may = record { order = omega arith; rise = omega (arith, ints) }
 summed p (e ∷ []) b h order may =
@@ -79,7 +79,7 @@ time_rises a b rate h k =
     ceil_le (units a) rate (time_of b rate) h (omega arith)
 
 -- the last packet leaves an average that is at least its own time below 0
-last_least : (p : Pace) (e : Ended) (es : List Ended) (b : Ended) (h : List Ended) → IsInOrder (e ∷ es ++ b ∷ h)
+last_least : (p : Pace) (e : Ended) (es : List Ended) (b : Ended) (h : List Ended) → EndsAreInOrder (e ∷ es ++ b ∷ h)
     → AreAllowed p (e ∷ es) (b ∷ h) → pos 0 ≤ℤ (average p (e ∷ es ++ b ∷ h) +ℤ pos (time_of e.len p.rate))
 last_least p e [] b h order may = (step p e b h may.0 order.0).least
 last_least p e (x ∷ xs) b h order may = (step p e x (xs ++ b ∷ h) may.0 order.0).least

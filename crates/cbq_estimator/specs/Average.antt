@@ -27,9 +27,9 @@ abbrev pub last_end : List Ended → ℕ
 last_end h = unwrap_or (latest h) 0
 
 -- no end is before the one before it
-abbrev pub IsInOrder : List Ended → Type 0
-IsInOrder [] = Unit {0}
-IsInOrder (e ∷ h) = (last_end h ≤ e.end) × IsInOrder h
+abbrev pub EndsAreInOrder : List Ended → Type 0
+EndsAreInOrder [] = Unit {0}
+EndsAreInOrder (e ∷ h) = (last_end h ≤ e.end) × EndsAreInOrder h
 
 -- the idle time of a packet that ends at `end`: since the end before it, less the packet's own time at the class's rate
 abbrev pub idle : Pace → List Ended → (end len : ℕ) → ℤ

@@ -1,7 +1,7 @@
 -- What a class that keeps to its own average may send: no more than its rate carries in the time, a burst ahead.
 use Rattle.std.specs.Prelude.{ℕ, ◌≤◌, ◌+◌, ◌-◌, ◌*◌, ◌++◌, pos, ◌+ℤ◌, ◌-ℤ◌, ◌*ℤ◌, ◌≤ℤ◌, IsTrue, List, [], ◌∷◌}
 use Rattle.play_base.specs.Units.{units, time_of}
-use Rattle.cbq_estimator.specs.Average.{Pace, Ended, average, idle, IsInOrder}
+use Rattle.cbq_estimator.specs.Average.{Pace, Ended, average, idle, EndsAreInOrder}
 use Rattle.cbq_estimator.specs.Starts.{allows}
 
 -- each of the newer packets was allowed after those before it
@@ -29,5 +29,5 @@ RisesByIdleTime p e b h =
 -- b.
 abbrev pub KeepsItsRate : (p : Pace) (longest : ℕ) (e : Ended) (es : List Ended) (b : Ended) (h : List Ended) → Type 0
 KeepsItsRate p longest e es b h =
-    IsInOrder (e ∷ es ++ b ∷ h) → AreAllowed p (e ∷ es) (b ∷ h) → AreAtMost longest (e ∷ es)
+    EndsAreInOrder (e ∷ es ++ b ∷ h) → AreAllowed p (e ∷ es) (b ∷ h) → AreAtMost longest (e ∷ es)
     → 31 * units (bytes (e ∷ es)) ≤ p.rate * (32 * (e.end - b.end) + 31 * (p.cap + time_of longest p.rate))

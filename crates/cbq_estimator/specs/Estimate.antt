@@ -1,16 +1,16 @@
 -- What contracts see of an estimator, and the histories that it stands for.
 use Rattle.std.specs.Prelude.{ℕ, ◌≡◌, ◌<◌, ◌≤◌, ◌^◌, ◌+◌, ◌-◌, ℤ, pos, negsuc, ◌≤ℤ◌, List, Option, unwrap_or}
-use Rattle.cbq_estimator.specs.Average.{Pace, Ended, average, latest, IsInOrder}
+use Rattle.cbq_estimator.specs.Average.{Pace, Ended, average, latest, EndsAreInOrder}
 
 pub record Estimate : Type 0 where
   pub pace : Pace
   pub average : ℤ
   pub last : Option ℕ
 
-pub record StandsFor (e : Estimate) (h : List Ended) : Type 0 where
+pub record Represents (e : Estimate) (h : List Ended) : Type 0 where
   pub average : e.average ≡ average e.pace h
   pub last : e.last ≡ latest h
-  pub in_order : IsInOrder h
+  pub in_order : EndsAreInOrder h
 
 -- The average is at least that of packets of the greatest length, sent without a pause at the least rate, and at most the
 -- cap, which is above 0.

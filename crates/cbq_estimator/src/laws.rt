@@ -3,7 +3,7 @@ ghost use Rattle.std.specs.Prelude.{◌≡◌, ◌≤◌, ◌<◌, ◌∷◌, �
 ghost use Rattle.altq_model.specs.History.{Event};
 ghost use Rattle.altq_model.specs.Link.{Link, link};
 ghost use Rattle.cbq_estimator.specs.Average.{Pace, Ended};
-ghost use Rattle.cbq_estimator.specs.Estimate.{Estimate, StandsFor};
+ghost use Rattle.cbq_estimator.specs.Estimate.{Estimate, Represents};
 ghost use Rattle.cbq_estimator.specs.Now.{IsLeastStartNow, after_end, allows_now, estimate_of, start_now};
 ghost use Rattle.cbq_estimator.specs.Capped.{RisesByIdleTime, KeepsItsRate};
 ghost use Rattle.cbq_estimator.specs.Starts.{allows, allows_start, least_start, EndsItsRun, IsLeastStart};
@@ -31,7 +31,7 @@ pub fn allowed_packets_keep_the_rate()
 /// An estimator answers as its histories do: its pace, the average and the last end are enough, since what one more packet
 /// changes, what is allowed and the least start follow from them.
 pub fn answers_are_those_of_the_history()
-    ensures kept { (e : Estimate) (h : List Ended) → StandsFor e h → e ≡ estimate_of e.pace h }
+    ensures kept { (e : Estimate) (h : List Ended) → Represents e h → e ≡ estimate_of e.pace h }
     ensures ended { (p : Pace) (h : List Ended) (e : Ended) → after_end (estimate_of p h) e ≡ estimate_of p (e ∷ h) }
     ensures allowed { (p : Pace) (h : List Ended) (end len : ℕ) → allows_now (estimate_of p h) end len ≡ allows p h end len }
     ensures least { (e : Estimate) (rate : ℕ) (l : Link) (now len : ℕ) → l.free ≤ now

@@ -12,7 +12,7 @@ ghost use Rattle.play_base.specs.Units.{time_of};
 ghost use Rattle.altq_model.specs.Link.{end_of};
 ghost use Rattle.cbq_estimator.specs.Average.{Ended, cap_of, decayed, average};
 ghost use Rattle.cbq_estimator.specs.Starts.{allows, enough, wanted, IsLeastStart};
-ghost use Rattle.cbq_estimator.specs.Estimate.{Estimate, StandsFor};
+ghost use Rattle.cbq_estimator.specs.Estimate.{Estimate, Represents};
 ghost use Rattle.cbq_estimator.specs.Now.{after_end, allows_now, idle_now, start_now, wanted_now};
 
 mod laws;
@@ -114,7 +114,7 @@ fn enough(average: i64) -> u64
 
 impl Estimator {
     /// An estimator of a class of `rate` bits per second, 1,000 to 10^12, which may send `maxburst` packets, 1 to 1,000, of
-    /// `packetsize` bytes, 1 to 262,144, in a burst, and has sent none. Takes no memory.
+    /// `packetsize` bytes, 1 to 262,144, in a burst, and has sent none. Does not allocate.
     pub fn new(rate: u64, maxburst: u32, packetsize: u32) -> Estimator
         requires least { 1000 ≤ rate }
         requires most { rate ≤ 10 ^ 12 }
@@ -125,7 +125,7 @@ impl Estimator {
         ensures pace { result.pace ≡ record { rate = rate; cap = cap_of rate maxburst packetsize } }
         ensures average { result.average ≡ pos (cap_of rate maxburst packetsize) }
         ensures last { result.last ≡ None }
-        ensures history { StandsFor result [] }
+        ensures history { Represents result [] }
     {
         let cap = u64::from(maxburst) * time_of(u64::from(packetsize), rate);
         Estimator {
@@ -148,7 +148,7 @@ impl Estimator {
     fn wanted(&self, len: u32) -> u64
         requires { len ≤ 262144 }
         ensures value { result ≡ wanted_now self.now len }
-        ensures history { (h : List Ended) → StandsFor self.now h → result ≡ wanted self.now.pace h len }
+        ensures history { (h : List Ended) → Represents self.now h → result ≡ wanted self.now.pace h len }
     {
         self.earliest() + own_time(len, self.rate)
     }
@@ -156,7 +156,7 @@ impl Estimator {
     /// 32 times the average idle time, in nanoseconds.
     pub fn average(&self) -> i64
         ensures value { result ≡ self.now.average }
-        ensures history { (h : List Ended) → StandsFor self.now h → result ≡ average self.now.pace h }
+        ensures history { (h : List Ended) → Represents self.now h → result ≡ average self.now.pace h }
     {
         self.average
     }
@@ -171,7 +171,7 @@ impl Estimator {
         requires some_bytes { 1 ≤ len }
         requires few_bytes { len ≤ 262144 }
         ensures value { result ≡ start_now self.now clock.now.rate clock.now.link now len }
-        ensures history { (h : List Ended) → StandsFor self.now h
+        ensures history { (h : List Ended) → Represents self.now h
             → IsLeastStart self.now.pace h clock.now.rate clock.now.link now len result }
     {
         if self.average > 0 {
@@ -199,13 +199,13 @@ impl Estimator {
     /// memory.
     pub fn allows(&self, end: u64, len: u32) -> bool
         ensures value { result ≡ allows_now self.now end len }
-        ensures history { (h : List Ended) → StandsFor self.now h → result ≡ allows self.now.pace h end len }
+        ensures history { (h : List Ended) → Represents self.now h → result ≡ allows self.now.pace h end len }
     {
         self.average > 0 || self.is_late(end, len)
     }
 
     /// A packet of `len` bytes, of the class or of a class below it, ended at `end`: no earlier than the end before, and before
-    /// 2^63 + 2^62 nanoseconds. Constant time; takes no memory.
+    /// 2^63 + 2^62 nanoseconds. Constant time; does not allocate.
     pub fn ended(&mut self, end: u64, len: u32)
         requires in_order { unwrap_or self.old.last 0 ≤ end }
         requires early { end < 2 ^ 63 + 2 ^ 62 }
@@ -214,7 +214,7 @@ impl Estimator {
         ensures value { self.new ≡ after_end self.old (record { end = end; len = len }) }
         ensures pace { self.new.pace ≡ self.old.pace }
         ensures last { self.new.last ≡ Some end }
-        ensures history { (h : List Ended) → StandsFor self.old h → StandsFor self.new (record { end = end; len = len } ∷ h) }
+        ensures history { (h : List Ended) → Represents self.old h → Represents self.new (record { end = end; len = len } ∷ h) }
     {
         if let Some(last) = self.last {
             let idle = idle_time(last, end, own_time(len, self.rate));

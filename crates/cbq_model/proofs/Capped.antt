@@ -10,7 +10,7 @@ use Rattle.altq_model.specs.Link.{end_of, link}
 use Rattle.altq_model.specs.Play.{Choice}
 use Rattle.play_base.specs.Units.{time_of, units}
 use Rattle.play_laws.proofs.LinkLemmas.{end_later}
-use Rattle.cbq_estimator.specs.Average.{Pace, Ended, IsInOrder, last_end}
+use Rattle.cbq_estimator.specs.Average.{Pace, Ended, EndsAreInOrder, last_end}
 use Rattle.cbq_estimator.specs.Capped.{AreAllowed, AreAtMost, bytes}
 use Rattle.cbq_estimator.specs.Estimate.{Estimate}
 use Rattle.cbq_estimator.specs.Now.{allows_now, estimate_of}
@@ -91,7 +91,7 @@ allowed_by_ends cs rate h s c b i e own =
 -- the ends of a class are in order, and none is after the link's last
 record IsUpTo (free : ℕ) (es : List Ended) : Type 0 where
   pub most : last_end es ≤ free
-  pub order : IsInOrder es
+  pub order : EndsAreInOrder es
 
 up_to_by : (free end : ℕ) (x : Ended) (es : List Ended) (b : Bool) → IsUpTo free es → free ≤ end → x.end ≡ end → IsUpTo end (if b then x ∷ es else es)
 up_to_by free end x es true u l e = record { most = omega (arith, e); order = (omega (arith, u.most, e, l), u.order) }
@@ -161,7 +161,7 @@ keeps_its_rate cs rate c last between first before some own_rate s =
     let all : sent_by c (Sent last ∷ between ++ Sent first ∷ before) ≡ e ∷ es ++ b ∷ older =
     sent_after c (Sent last ∷ between) (Sent first ∷ before)
     ∙ ap (λ (xs : List Ended). xs ++ sent_by c (Sent first ∷ before)) newest ∙ ap (λ (xs : List Ended). (e ∷ es) ++ xs) oldest in
-    let order : IsInOrder (e ∷ es ++ b ∷ older) = subst IsInOrder all (up_to cs rate c (Sent last ∷ between ++ Sent first ∷ before) some s.sendings).order in
+    let order : EndsAreInOrder (e ∷ es ++ b ∷ older) = subst EndsAreInOrder all (up_to cs rate c (Sent last ∷ between ++ Sent first ∷ before) some s.sendings).order in
     let A : List Ended → Type 0 = λ xs. AreAllowed p xs (sent_by c (Sent first ∷ before)) in
     let B : List Ended → Type 0 = λ xs. AreAllowed p (e ∷ es) xs in
     let allowed : AreAllowed p (e ∷ es) (b ∷ older) =

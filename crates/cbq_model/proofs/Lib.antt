@@ -5,3 +5,5 @@ pub mod Least
 pub mod Members
 pub mod Places
 pub mod PlayedSendings
+pub mod Firsts
+pub mod WholeWays

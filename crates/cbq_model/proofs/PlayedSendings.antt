@@ -1,7 +1,7 @@
 -- The sendings of a play of CBQ.
 use Rattle.std.proofs.Common.{◌≡◌, ◌<◌, ◌∙◌, ◌⊎◌, inl, inr, ℕ, List, [], ◌∷◌, ap, sym, subst}
 use Rattle.altq_model.specs.declared.Rule.{Rule}
-use Rattle.altq_model.specs.History.{Arrival, Event, Happened, bare}
+use Rattle.altq_model.specs.History.{Arrival, Event, LabelledEvent, unlabelled}
 use Rattle.altq_model.specs.Lawful.{AreRising}
 use Rattle.altq_model.specs.Link.{HasLinkEnds}
 use Rattle.altq_model.specs.Play.{AreDue, Choice}
@@ -22,17 +22,17 @@ choice_is : (k : Choice) (class : ℕ) (r : Rule) → class ≡ k.class → r �
 choice_is k class r e f = ap (λ (n : ℕ). choice n k.rule) (sym e) ∙ ap (λ (q : Rule). choice class q) (sym f)
 
 -- one event more
-follows : (cs : List CbqClass) (rate seed : ℕ) (answer : Answering) (arrived : List Arrival) (g : List Happened) (e : Happened)
+follows : (cs : List CbqClass) (rate seed : ℕ) (answer : Answering) (arrived : List Arrival) (g : List LabelledEvent) (e : LabelledEvent)
     → IsOffer (cbq cs rate answer) rate seed arrived g e ⊎ IsSending (cbq cs rate answer) rate arrived g e
-    → HasLinkEnds rate (bare (e ∷ g)) → AreSendings cs rate (bare g) → AreSendings cs rate (bare (e ∷ g))
+    → HasLinkEnds rate (unlabelled (e ∷ g)) → AreSendings cs rate (unlabelled g) → AreSendings cs rate (unlabelled (e ∷ g))
 follows cs rate seed answer arrived g e (inl x) ends a =
-    let P : Happened → Type 0 = λ k. AreSendings cs rate (k.what ∷ bare g) in
+    let P : LabelledEvent → Type 0 = λ k. AreSendings cs rate (k.what ∷ unlabelled g) in
     subst P (sym x.offer) a
 follows cs rate seed answer arrived g e (inr x) ends a =
-    let E : Event → Type 0 = λ k. HasLinkEnds rate (k ∷ bare g) in
+    let E : Event → Type 0 = λ k. HasLinkEnds rate (k ∷ unlabelled g) in
     let here = subst E x.event ends in
-    let P : Event → Type 0 = λ k. AreSendings cs rate (k ∷ bare g) in
-    let one : capped.IsSending cs rate (bare g) x.sending = record {
+    let P : Event → Type 0 = λ k. AreSendings cs rate (k ∷ unlabelled g) in
+    let one : capped.IsSending cs rate (unlabelled g) x.sending = record {
       held = x.may.held;
       free = here.0;
       end = x.end;
@@ -43,15 +43,15 @@ follows cs rate seed answer arrived g e (inr x) ends a =
     } in
     subst P (sym x.event) (one, a)
 
-each_sending : (cs : List CbqClass) (rate seed : ℕ) (answer : Answering) (arrived : List Arrival) (g : List Happened) → 0 < rate
-    → EachFollows (cbq cs rate answer) rate seed arrived g → AreSendings cs rate (bare g)
+each_sending : (cs : List CbqClass) (rate seed : ℕ) (answer : Answering) (arrived : List Arrival) (g : List LabelledEvent) → 0 < rate
+    → EachFollows (cbq cs rate answer) rate seed arrived g → AreSendings cs rate (unlabelled g)
 each_sending cs rate seed answer arrived [] some f = tt
 each_sending cs rate seed answer arrived (e ∷ g) some f =
     follows cs rate seed answer arrived g e f.0
     (link_ends (cbq cs rate answer) rate seed arrived (e ∷ g) (cbq_lawful cs rate answer some) f)
     (each_sending cs rate seed answer arrived g some f.1)
 
-pub played : (cs : List CbqClass) (rate seed : ℕ) (answer : Answering) (arrived : List Arrival) (g : List Happened) → 0 < rate → AreRising arrived
-    → AreDue (cbq cs rate answer) rate seed arrived g → AreSendings cs rate (bare g)
+pub played : (cs : List CbqClass) (rate seed : ℕ) (answer : Answering) (arrived : List Arrival) (g : List LabelledEvent) → 0 < rate → AreRising arrived
+    → AreDue (cbq cs rate answer) rate seed arrived g → AreSendings cs rate (unlabelled g)
 played cs rate seed answer arrived g some rise due =
     each_sending cs rate seed answer arrived g some (each_follows (cbq cs rate answer) rate seed arrived g some (cbq_lawful cs rate answer some) rise due)

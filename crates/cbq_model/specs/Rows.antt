@@ -1,7 +1,7 @@
 -- Worked examples on a link of 8,000,000 bits per second, on which a packet of 1,500 bytes takes 1.5 milliseconds, and on one of
 -- 10,000,000.
 use Rattle.std.specs.Prelude.{ℕ, zero, suc, ℤ, Bool, true, false, List, [], ◌∷◌, ◌++◌, None, Some}
-use Rattle.altq_model.specs.History.{Arrival, Decision, Event, Offered, Happened, Sent, bare, journal}
+use Rattle.altq_model.specs.History.{Arrival, Decision, Event, Offered, LabelledEvent, Sent, unlabelled, journal}
 use Rattle.altq_model.specs.Play.{play, play_on}
 use Rattle.altq_model.specs.Policies.{tail}
 use Rattle.cbq_estimator.specs.Average.{average}
@@ -23,7 +23,7 @@ packets zero class len = []
 packets (suc n) class len = record { class = class; len = len; prec = 0; at = 0 } ∷ packets n class len
 
 -- the play of these packets
-abbrev pub play_of : List CbqClass → (rate : ℕ) → List Arrival → List Happened
+abbrev pub play_of : List CbqClass → (rate : ℕ) → List Arrival → List LabelledEvent
 play_of cs rate arrived = play (cbq cs rate (tail 50)) rate 42 arrived
 
 abbrev pub journal_of : List CbqClass → (rate : ℕ) → List Arrival → List Decision
@@ -36,12 +36,12 @@ averages_in cs c (Offered a w v ∷ h) = averages_in cs c h
 averages_in cs c (Sent s ∷ h) = averages_in cs c h ++ average (pace_of (class_of cs c)) (ends cs c (Sent s ∷ h)) ∷ []
 
 abbrev pub averages_of : List CbqClass → (rate c : ℕ) → List Arrival → List ℤ
-averages_of cs rate c arrived = averages_in cs c (bare (play_of cs rate arrived))
+averages_of cs rate c arrived = averages_in cs c (unlabelled (play_of cs rate arrived))
 
 -- the least moment from t on at which a class may send after the first events of the play
 abbrev pub next_start : List CbqClass → (rate c t events : ℕ) → List Arrival → ℕ
 next_start cs rate c t events arrived =
-    start_of cs rate (situation cs rate (bare (play_on events (cbq cs rate (tail 50)) rate 42 arrived []))) c t
+    start_of cs rate (situation cs rate (unlabelled (play_on events (cbq cs rate (tail 50)) rate 42 arrived []))) c t
 
 abbrev pub quanta : List CbqClass → (rate : ℕ) → List ℕ
 quanta cs rate = each (λ c k. quantum_of rate k) cs

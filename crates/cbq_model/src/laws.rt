@@ -1,6 +1,6 @@
 // Laws of CBQ. The functions do nothing: each states its laws.
 ghost use Rattle.std.specs.Prelude.{◌≡◌, ◌≤◌, ◌<◌, ℕ, List, IsTrue};
-ghost use Rattle.altq_model.specs.History.{Arrival, Event, Happened, Sending, bare};
+ghost use Rattle.altq_model.specs.History.{Arrival, Event, LabelledEvent, Sending, unlabelled};
 ghost use Rattle.altq_model.specs.Lawful.{AreRising, IsLawful, IsSteady, SendsWhen};
 ghost use Rattle.altq_model.specs.Play.{AreDue};
 ghost use Rattle.altq_model.specs.Policies.{Answering};
@@ -25,6 +25,6 @@ pub fn cbq_is_lawful()
 pub fn class_keeps_its_rate()
     ensures rate { (cs : List CbqClass) (rate c : ℕ) (last : Sending) (between : List Event) (first : Sending) (before : List Event)
         → 0 < rate → 0 < (class_of cs c).rate → IsStretch cs rate c last between first before → KeepsItsRate cs c last between first }
-    ensures plays { (cs : List CbqClass) (rate seed : ℕ) (answer : Answering) (arrived : List Arrival) (g : List Happened) → 0 < rate → AreRising arrived
-        → AreDue (cbq cs rate answer) rate seed arrived g → AreSendings cs rate (bare g) }
+    ensures plays { (cs : List CbqClass) (rate seed : ℕ) (answer : Answering) (arrived : List Arrival) (g : List LabelledEvent) → 0 < rate → AreRising arrived
+        → AreDue (cbq cs rate answer) rate seed arrived g → AreSendings cs rate (unlabelled g) }
 {}

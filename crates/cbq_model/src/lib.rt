@@ -9,15 +9,19 @@
 ghost use Rattle.std.specs.Prelude.{◌≡◌};
 ghost use Rattle.cbq_model.specs.Choice.{goes_before};
 
+mod choice_laws;
 mod laws;
 mod rows;
+mod way_rows;
 
+pub use choice_laws::{eight_levels_are_the_whole_way, picks_are_the_first_candidates};
 pub use laws::{cbq_is_lawful, class_keeps_its_rate};
 pub use rows::{
     cbq_after_the_manual, class_above_its_rate_does_not_lend, class_is_paced_and_borrows,
     cursor_of_the_ring_goes_first, emptied_class_keeps_no_credit, quanta_and_rounds_are_rounded_up,
     weighted_round_of_two,
 };
+pub use way_rows::{worked_picks, worked_ways};
 
 /// A class of CBQ: its parent, `None` for the root; its rate in bits per second, 1,000 to 10^12; its priority, 0 to 7, the greatest of
 /// which goes first; whether it may borrow from its parent; and how many packets, 1 to 1,000, of how many bytes, 1 to 262,144, it

@@ -2,7 +2,7 @@
 use Rattle.std.proofs.Common.{◌≡◌, ◌≤◌, ◌<◌, ◌+◌, ◌∙◌, inl, inr, ℕ, List, [], ◌∷◌, None, Some, length, refl, ap, sym, subst, arith}
 use Rattle.std.specs.declared.option.Option.{Option}
 use Rattle.std.specs.Prelude.{slice_get, option_map}
-use Rattle.altq_model.specs.History.{Arrival, Event, Happened, bare, head, waiting}
+use Rattle.altq_model.specs.History.{Arrival, Event, LabelledEvent, unlabelled, head, waiting}
 use Rattle.altq_model.specs.Link.{Link, link}
 use Rattle.altq_model.specs.Play.{Policy, lesser}
 use Rattle.altq_model.specs.Lawful.{first_at, start_at}
@@ -21,7 +21,7 @@ use Rattle.cbq_model.proofs.Lawful.{head_is}
 use Rattle.cbq_model.proofs.Least.{IsLeastSend, one_least, send_is}
 use Rattle.cbq_rounds.specs.Due.{due_in, first_in, first_of, start_in}
 use Rattle.cbq_sharing.specs.Shared.{head_len, situation_in, start_now_in}
-use Rattle.cbq_rounds.specs.Stands.{Ruling, Stands, cbq_of}
+use Rattle.cbq_rounds.specs.Stands.{Ruling, Represents, cbq_of}
 use Rattle.cbq_rounds.proofs.DueLemmas.{cases}
 use Rattle.cbq_rounds.proofs.Firsts.{first_same}
 use Rattle.cbq_sharing.proofs.Moments.{start_is}
@@ -51,20 +51,20 @@ first_each p t h b (k ∷ ks) = ap (lesser (start_at p t h b)) (first_each p t h
 -- a history that CBQ stands for
 pub record Standing {Q : Type 0} (stands : Q → List QueueEvent → Type 0) (says : Q → Saying) : Type 0 where
   pub ruling : Ruling Q
-  pub history : List Happened
-  pub stood : Stands stands says ruling history
+  pub history : List LabelledEvent
+  pub stood : Represents stands says ruling history
 
 -- the clock of the link after a history
-pub record IsClock {Q : Type 0} (d : Ruling Q) (h : List Happened) (clock : Clock) : Type 0 where
+pub record IsClock {Q : Type 0} (d : Ruling Q) (h : List LabelledEvent) (clock : Clock) : Type 0 where
   pub same_rate : clock.rate ≡ d.shares.rate
-  pub same_link : clock.link ≡ link d.shares.rate (bare h)
+  pub same_link : clock.link ≡ link d.shares.rate (unlabelled h)
 
 module _ {Q : Type 0} (stands : Q → List QueueEvent → Type 0) (says : Q → Saying) (z : Standing stands says) where
   abbrev d : Ruling Q
   d = z.ruling
 
   abbrev b : List Event
-  b = bare z.history
+  b = unlabelled z.history
 
   abbrev tree : List CbqClass
   tree = d.shares.tree
@@ -76,7 +76,7 @@ module _ {Q : Type 0} (stands : Q → List QueueEvent → Type 0) (says : Q → 
   lists = list_in d.rows
 
   pub shown : (c : ℕ) → head_len (lists c) ≡ option_map (λ (a : Arrival). a.len) (head c b)
-  shown c = len_shown (lists c) (waiting c b) (z.stood.told.shown c).packets
+  shown c = len_shown (lists c) (waiting c b) (z.stood.recorded.shown c).packets
 
   -- what a choice looks at is what it has to
   pub situation_is : (l : Link) → l ≡ link rate b → situation_in d.shares lists l ≡ situation tree rate b

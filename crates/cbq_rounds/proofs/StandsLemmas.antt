@@ -5,14 +5,14 @@ use Rattle.std.specs.Prelude.{◌&&◌, is_none, is_some, not, slice_get, slice_
 use Rattle.std.proofs.lemmas.Bool.{ne_eqb}
 use Rattle.altq_model.specs.declared.Rule.{Rule}
 use Rattle.altq_model.specs.declared.Verdict.{Verdict}
-use Rattle.altq_model.specs.History.{Arrival, DrawnWords, Event, Happened, Sent, bare, head, is_kept, waiting}
+use Rattle.altq_model.specs.History.{Arrival, DrawnWords, Event, LabelledEvent, Sent, unlabelled, head, is_kept, waiting}
 use Rattle.altq_model.specs.Link.{Link, end_of, link}
 use Rattle.altq_model.specs.Play.{Choice}
 use Rattle.altq_model.specs.Policies.{Answering}
 use Rattle.play_base.specs.declared.packet.Ticket.{Ticket}
 use Rattle.leaf_queue.specs.Queue.{QueueEvent, Saying}
 use Rattle.leaf_queue.specs.declared.node.Entry.{Entry}
-use Rattle.class_rows.specs.Rows.{Answers, Rowed, SameRow, Told, answering, classes_in, holding, list_in}
+use Rattle.class_rows.specs.Rows.{Answers, ClassQueuesView, SameRow, RowRepresents, answering, classes_in, holding, list_in}
 use Rattle.class_rows.proofs.RowLemmas.{holding_distinct}
 use Rattle.discipline.specs.declared.pick.Pick.TheVariants.{Send}
 use Rattle.discipline.specs.declared.pick.Sending.{Sending}
@@ -39,7 +39,7 @@ use Rattle.cbq_rounds.proofs.DueLemmas.{SendsPicked, front_len, member_from, sen
 use Rattle.cbq_rounds.proofs.PolicyLemmas.{IsClock, Standing, each_same, first_is, shown, situation_is}
 use Rattle.cbq_sharing.proofs.SentLemmas.{estimates_after, none_shown, set_each}
 use Rattle.cbq_sharing.specs.Held.{IsUntold}
-use Rattle.cbq_rounds.specs.Stands.{IsRuling, Ruling, Sets, Stands, cbq_of}
+use Rattle.cbq_rounds.specs.Stands.{IsRuling, Ruling, Sets, Represents, cbq_of}
 use Rattle.cbq_sharing.proofs.HeldLemmas.{sent_held}
 use Rattle.cbq_sharing.specs.Waiting.{AreSized, AreWaiting}
 
@@ -60,7 +60,7 @@ not_kept false b x xs e = refl
 pub offer_others : (v : Verdict) (class c : ℕ) (x : Entry) (lists : ℕ → List Entry) → class < c → lists c ≡ [] → after_offer v class x lists c ≡ []
 offer_others v class c x lists l e = not_kept (is_kept v) (eqb class c) x (lists c) (ne_eqb class c (λ q. omega (arith, q, l))) ∙ e
 
-pub same_in : {Q : Type 0} (most : Q → ℕ) (says : Q → Saying) (old new : Rowed Q) → SameRow most says old new → classes_in new ≡ classes_in old
+pub same_in : {Q : Type 0} (most : Q → ℕ) (says : Q → Saying) (old new : ClassQueuesView Q) → SameRow most says old new → classes_in new ≡ classes_in old
 same_in most says old new s = ap (λ (n : ℕ). holding n new.holds) s.first ∙ ap (holding old.first) s.holds
 
 -- a choice by its parts
@@ -133,7 +133,7 @@ pub record IsDueSending {Q : Type 0} (stands : Q → List QueueEvent → Type 0)
   pub clock : Clock
   pub sending : Sending
   pub tree : IsTree from.ruling.shares.tree
-  pub choice : IsChoice sending.start clock (bare from.history)
+  pub choice : IsChoice sending.start clock (unlabelled from.history)
   pub free : clock.link.free ≤ sending.start
   pub same_rate : clock.rate ≡ from.ruling.shares.rate
   pub ends : sending.end ≡ end_of clock.rate clock.link sending.start sending.len
@@ -144,16 +144,16 @@ module _ {Q : Type 0} (stands : Q → List QueueEvent → Type 0) (says : Q → 
   distinct_in d e = let P : List ℕ → Type 0 = λ cs. AreDistinct cs in subst P e (holding_distinct d.rows.first d.rows.holds)
 
   -- an offer
-  pub offer_stands : (most : Q → ℕ) (d : Ruling Q) (rows : Rowed Q) (h : List Happened) (x : Offering)
-      → SameRow most says d.rows rows → Stands stands says d h → IsOffer (bare_arrival x) (bare h)
+  pub offer_stands : (most : Q → ℕ) (d : Ruling Q) (rows : ClassQueuesView Q) (h : List LabelledEvent) (x : Offering)
+      → SameRow most says d.rows rows → Represents stands says d h → IsOffer (bare_arrival x) (unlabelled h)
       → Answers stands says d.rows rows h x.class (entry x.ticket x.len x.prec) x.now x.words x.verdict x.after
-      → IsAnswer (cbq_of says d) (bare h) x.words (bare_arrival x) x.verdict x.after
-      × Stands stands says (record { shares = d.shares; rows = rows }) (offer_of (cbq_of says d) h x.ticket x.words (bare_arrival x) ∷ h)
+      → IsAnswer (cbq_of says d) (unlabelled h) x.words (bare_arrival x) x.verdict x.after
+      × Represents stands says (record { shares = d.shares; rows = rows }) (offer_of (cbq_of says d) h x.ticket x.words (bare_arrival x) ∷ h)
   offer_stands most d rows h x same k o a =
-      let O : Answering → Type 0 = λ f. IsOrderly (cbq d.shares.tree d.shares.rate f) (bare (offer_of (cbq_of says d) h x.ticket x.words (bare_arrival x) ∷ h)) in (
+      let O : Answering → Type 0 = λ f. IsOrderly (cbq d.shares.tree d.shares.rate f) (unlabelled (offer_of (cbq_of says d) h x.ticket x.words (bare_arrival x) ∷ h)) in (
         record { verdict = a.verdict; words = a.words },
         record {
-          told = a.told;
+          recorded = a.recorded;
           estimates = k.estimates;
           credits = k.credits;
           cursors = k.cursors;
@@ -189,7 +189,7 @@ module _ {Q : Type 0} (stands : Q → List QueueEvent → Type 0) (says : Q → 
     rate = d.shares.rate
 
     abbrev b : List Event
-    b = bare w.from.history
+    b = unlabelled w.from.history
 
     same_link : clock.link ≡ link rate b
     same_link = sym w.choice.link ∙ ap (λ (r : ℕ). link r b) w.same_rate
@@ -262,12 +262,12 @@ module _ {Q : Type 0} (stands : Q → List QueueEvent → Type 0) (says : Q → 
         (λ c. ap (λ (v : ℕ). if eqb x.class c then if emptied then 0 else v - x.len else v) (gained_same c))
         ∙ ap (λ (z : Bool). each (λ c y. if eqb x.class c then if z then 0 else n c - x.len else n c) tree) e
 
-    pub sent_stands : (most : Q → ℕ) (rows : Rowed Q) (after : Shared) (end : ℕ) (emptied : Bool) → SameRow most says d.rows rows → Told stands rows (sent_of x ∷ w.from.history)
+    pub sent_stands : (most : Q → ℕ) (rows : ClassQueuesView Q) (after : Shared) (end : ℕ) (emptied : Bool) → SameRow most says d.rows rows → RowRepresents stands rows (sent_of x ∷ w.from.history)
         → emptied ≡ is_none (slice_get (list_in rows x.class) 0) → end ≡ x.end → IsAfter d.shares lists clock x end emptied after
-        → Stands stands says (record { shares = after; rows = rows }) (sent_of x ∷ w.from.history)
-    sent_stands most rows after end emptied same told none e i =
+        → Represents stands says (record { shares = after; rows = rows }) (sent_of x ∷ w.from.history)
+    sent_stands most rows after end emptied same recorded none e i =
         let g : List Event = Sent (bare_sending x) ∷ b in
-        let empty : emptied ≡ is_none (head x.class g) = none ∙ none_shown (list_in rows x.class) (waiting x.class g) (told.shown x.class).packets in
+        let empty : emptied ≡ is_none (head x.class g) = none ∙ none_shown (list_in rows x.class) (waiting x.class g) (recorded.shown x.class).packets in
         let es : after.estimates ≡ estimates tree g =
         i.estimates ∙ ap (λ (n : ℕ). told_up 8 tree (Some x.class) (record { end = n; len = x.len }) d.shares.estimates) e
         ∙ ap (λ (l : List Estimate). told_up 8 tree (Some x.class) (record { end = x.end; len = x.len }) l) w.from.stood.estimates
@@ -283,7 +283,7 @@ module _ {Q : Type 0} (stands : Q → List QueueEvent → Type 0) (says : Q → 
         let U : List CbqClass → Type 0 = λ cs. AreSendings cs rate g in
         let classes : classes_in rows ≡ numbers after.tree = same_in most says d.rows rows same ∙ w.from.stood.classes ∙ ap numbers (sym i.tree) in
         record {
-          told = told;
+          recorded = recorded;
           estimates = es ∙ ap (λ (cs : List CbqClass). estimates cs g) (sym i.tree);
           credits = credited ∙ ap (λ (cs : List CbqClass). credits cs rate g) (sym i.tree) ∙ ap (λ (r : ℕ). credits after.tree r g) (sym i.rate);
           cursors = turned ∙ ap (λ (cs : List CbqClass). cursors cs g) (sym i.tree);
@@ -320,7 +320,7 @@ length_all f b [] = refl
 length_all f b (k ∷ ks) = let more = length_all f (b + 1) ks in omega (arith, more)
 
 -- what is kept after a sending, and the rows that its packet has left
-pub record HasLeft {Q : Type 0} (says : Q → Saying) (d : Ruling Q) (rows : Rowed Q) (x : Sending) (after : Shared) : Type 0 where
+pub record HasLeft {Q : Type 0} (says : Q → Saying) (d : Ruling Q) (rows : ClassQueuesView Q) (x : Sending) (after : Shared) : Type 0 where
   pub clock : Clock
   pub end : ℕ
   pub emptied : Bool
@@ -330,7 +330,7 @@ pub record HasLeft {Q : Type 0} (says : Q → Saying) (d : Ruling Q) (rows : Row
   pub lists : (c : ℕ) → list_in rows c ≡ after_sent x.class (list_in d.rows) c
 
 -- the classes keep their form after a sending
-pub ruling_after : {Q : Type 0} (says : Q → Saying) (d : Ruling Q) (rows : Rowed Q) (x : Sending) (after : Shared)
+pub ruling_after : {Q : Type 0} (says : Q → Saying) (d : Ruling Q) (rows : ClassQueuesView Q) (x : Sending) (after : Shared)
     (k : Sets) (words : List ℕ) (h : HeldBack) → IsRuling d.shares d.rows k → HasLeft says d rows x after
     → AreWaiting words (list_in rows) → marked h.set x.class ≢ 1 → ((c : ℕ) → marked h.set c ≡ 1 → IsUntold k.held.set d.shares.estimates after.estimates c)
     → h.moments ≡ k.held.moments → IsRuling after rows (record { waiting = words; held = h; sets = k.sets; tops = k.tops })

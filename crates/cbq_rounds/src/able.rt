@@ -10,7 +10,7 @@ ghost use Rattle.cbq_sharing.specs.Waiting.{AreSized};
 
 use cbq_model::Rank;
 use cbq_sharing::{Lent, Rings, Shares};
-use class_rows::Rows;
+use class_rows::ClassQueues;
 use class_sets::ClassSet;
 use leaf_queue::QueueRule;
 use link_clock::LinkClock;
@@ -29,7 +29,7 @@ fn leads(best: Option<Rank>, rank: Rank) -> bool
 // puts those that may not and have no lender into `refused`.
 fn able_at<Q: QueueRule + Drop>(
     shares: &Shares,
-    rows: &Rows<Q>,
+    rows: &ClassQueues<Q>,
     awake: &ClassSet,
     rings: &Rings,
     priority: u8,
@@ -79,7 +79,7 @@ fn able_at<Q: QueueRule + Drop>(
 /// one of them may send, those of lesser priority need not be asked, since none of them goes before it.
 pub fn first_able<Q: QueueRule + Drop>(
     shares: &Shares,
-    rows: &Rows<Q>,
+    rows: &ClassQueues<Q>,
     awake: &ClassSet,
     rings: &Rings,
     now: u64,

@@ -1,9 +1,9 @@
 // CBQ with its queues.
 ghost use Rattle.std.specs.Prelude.{◌≡◌, ◌≤◌, ◌<◌, ◌^◌, [], ℕ, List, All, IfOk, length, map, None, Some, if◌then◌else◌};
 ghost use Rattle.altq_model.specs.declared.Rule.TheVariants.{Own, Borrow};
-ghost use Rattle.class_rows.specs.Rows.{IsNew, limit_at, list_in};
+ghost use Rattle.class_rows.specs.Rows.{IsNewQueue, limit_at, list_in};
 ghost use Rattle.leaf_queue.specs.Queue.{by_queues};
-ghost use Rattle.cbq_laws.specs.Ways.{IsEightDeep};
+ghost use Rattle.cbq_model.specs.Ways.{IsEightDeep};
 ghost use Rattle.cbq_model.specs.Choice.{able, best};
 ghost use Rattle.cbq_model.specs.Rounds.{cbq};
 ghost use Rattle.cbq_rounds.specs.Due.{due_in, first_in};
@@ -17,8 +17,8 @@ use crate::look::{Found, look};
 use altq_model::{Rule, Verdict};
 use cbq_model::CbqClass;
 use cbq_sharing::{Rings, Shares, hold_refused, wake};
-use class_rows::Rows;
-use class_sets::{ClassSet, Held};
+use class_rows::ClassQueues;
+use class_sets::{ClassSet, HeldClasses};
 use discipline::{Discipline, Pick, Sending};
 use leaf_queue::{Entry, QueueRule, Words};
 use link_clock::LinkClock;
@@ -30,9 +30,9 @@ use std::marker::Model;
 #[derive(Drop)]
 pub struct Cbq<Q: QueueRule + Drop> {
     shares: Shares,
-    rows: Rows<Q>,
+    rows: ClassQueues<Q>,
     waiting: ClassSet,
-    held: Held,
+    held: HeldClasses,
     rings: Rings,
 }
 
@@ -61,17 +61,17 @@ impl<Q: QueueRule + Drop> Cbq<Q> {
         requires one_each { length queues.items ≡ length classes.now }
         requires tree { IsEightDeep classes.now }
         requires classes { All IsClass classes.now }
-        requires queues { All (IsNew Q.stands Q.most) queues.items }
-        ensures empty { IfOk result (λ d. ⟦<Cbq<Q> as Discipline>⟧.stands d []) }
-        ensures policy { IfOk result (λ d. ⟦<Cbq<Q> as Discipline>⟧.policy d ≡ cbq classes.now rate (by_queues 0 (map Q.says queues.items))) }
-        ensures limits { IfOk result (λ d. ⟦<Cbq<Q> as Discipline>⟧.limits d ≡ limit_at 0 (map Q.most queues.items)) }
-        ensures rate { IfOk result (λ d. ⟦<Cbq<Q> as Discipline>⟧.link_rate d ≡ Some rate) }
+        requires queues { All (IsNewQueue Q.stands Q.most) queues.items }
+        ensures empty { IfOk result (λ d. (⟦<Cbq<Q> as Discipline>⟧.view d).represents []) }
+        ensures policy { IfOk result (λ d. (⟦<Cbq<Q> as Discipline>⟧.view d).policy ≡ cbq classes.now rate (by_queues 0 (map Q.says queues.items))) }
+        ensures limits { IfOk result (λ d. (⟦<Cbq<Q> as Discipline>⟧.view d).limits ≡ limit_at 0 (map Q.most queues.items)) }
+        ensures rate { IfOk result (λ d. (⟦<Cbq<Q> as Discipline>⟧.view d).link_rate ≡ Some rate) }
     {
         let holds = vec![in alloc; true; queues.len()]?;
-        let rows = Rows::build(alloc, 0, queues, holds)?;
+        let rows = ClassQueues::build(alloc, 0, queues, holds)?;
         let shares = Shares::build(alloc, classes, rate)?;
         let rings = Rings::build(alloc, classes)?;
-        let held = Held::none(alloc)?;
+        let held = HeldClasses::none(alloc)?;
         Ok(Cbq {
             shares,
             rows,
@@ -92,7 +92,7 @@ fn rule_of(allowed: bool) -> Rule
 // What is due, by what a look has found.
 fn pick_of<Q: QueueRule + Drop>(
     shares: &Shares,
-    rows: &Rows<Q>,
+    rows: &ClassQueues<Q>,
     found: &Found,
     now: u64,
     clock: &LinkClock,
@@ -130,30 +130,25 @@ fn pick_of<Q: QueueRule + Drop>(
 }
 
 impl<Q: QueueRule + Drop> Discipline for Cbq<Q> {
-    ghost use Rattle.std.specs.Prelude.{Some};
-    ghost use Rattle.altq_model.specs.History.{bare, offered};
+    ghost use Rattle.std.specs.Prelude.{[], Some};
+    ghost use Rattle.altq_model.specs.History.{unlabelled, offered};
     ghost use Rattle.class_rows.specs.Rows.{limit_in, list_in};
     ghost use Rattle.class_rows.proofs.RowLemmas.{none_is_least};
     ghost use Rattle.cbq_rounds.specs.Due.{due_in};
-    ghost use Rattle.cbq_rounds.specs.Stands.{Stands, cbq_of};
+    ghost use Rattle.cbq_rounds.specs.Stands.{Represents, cbq_of};
 
-    ghost lists = { λ d. list_in d.rows };
-
-    ghost limits = { λ d. limit_in Q.most d.rows };
-
-    ghost stands = { λ d h. Stands Q.stands Q.says d h };
-
-    ghost due = { λ d clock now. due_in d.shares (list_in d.rows) clock now };
-
-    ghost policy = { λ d. cbq_of Q.says d };
-
-    ghost link_rate = { λ d. Some d.shares.rate };
-
-    ghost given = { λ d. 0 };
-
-    ghost moment = { λ d. 0 };
-
-    ghost ended = { λ d. d.shares.ended };
+    ghost view = { λ d. record {
+      policy = cbq_of Q.says d;
+      limits = limit_in Q.most d.rows;
+      link_rate = Some d.shares.rate;
+      fixed = [];
+      lists = list_in d.rows;
+      represents = λ h. Represents Q.stands Q.says d h;
+      due = λ clock now. due_in d.shares (list_in d.rows) clock now;
+      given = 0;
+      moment = 0;
+      ended = d.shares.ended;
+    } };
 
     fn room(&self) -> u32 {
         self.rows.room()
@@ -221,9 +216,9 @@ impl<Q: QueueRule + Drop> Discipline for Cbq<Q> {
         self.shares.tell(sending.class, sending.len, &mut self.held);
     }
 
-    ghost shows = { λ d h s. s.told.shown };
+    ghost shows = { λ d h s. s.recorded.shown };
 
-    ghost counts = { λ d h s. none_is_least (offered (bare h)) };
+    ghost counts = { λ d h s. none_is_least (offered (unlabelled h)) };
 
     ghost moments = { λ d h s t l b. none_is_least t };
 

@@ -13,8 +13,8 @@ ghost use Rattle.cbq_sharing.specs.Shared.{head_len, may_end};
 ghost use Rattle.cbq_sharing.specs.Waiting.{AreSized, AreWaiting};
 
 use cbq_sharing::{Lent, Rings, Shares, wake};
-use class_rows::Rows;
-use class_sets::{ClassSet, Held};
+use class_rows::ClassQueues;
+use class_sets::{ClassSet, HeldClasses};
 use discipline::Sending;
 use leaf_queue::QueueRule;
 use link_clock::LinkClock;
@@ -22,7 +22,7 @@ use link_clock::LinkClock;
 // Whether a class in which a packet waits may send it at `now`. Its head is looked at only where it has to be asked.
 fn may_gain<Q: QueueRule + Drop>(
     shares: &Shares,
-    rows: &Rows<Q>,
+    rows: &ClassQueues<Q>,
     class: u32,
     now: u64,
     clock: &LinkClock,
@@ -52,7 +52,7 @@ fn may_gain<Q: QueueRule + Drop>(
 // If it needed any, it asks each class of its priority that is awake once, and the lenders of each once for those of one parent in turn.
 fn gain_all<Q: QueueRule + Drop>(
     shares: &mut Shares,
-    rows: &Rows<Q>,
+    rows: &ClassQueues<Q>,
     awake: &ClassSet,
     rings: &Rings,
     sending: &Sending,
@@ -92,8 +92,8 @@ fn gain_all<Q: QueueRule + Drop>(
 /// Holds those classes back no longer that may send at the start of a sending, and gives the candidates of it their gains.
 pub fn gain_awake<Q: QueueRule + Drop>(
     shares: &mut Shares,
-    held: &mut Held,
-    rows: &Rows<Q>,
+    held: &mut HeldClasses,
+    rows: &ClassQueues<Q>,
     waiting: &ClassSet,
     rings: &Rings,
     sending: &Sending,

@@ -12,7 +12,7 @@ ghost use Rattle.cbq_sharing.specs.Waiting.{AreSized, AreWaiting};
 use crate::able::first_able;
 use cbq_model::Rank;
 use cbq_sharing::{Rings, Shares};
-use class_rows::Rows;
+use class_rows::ClassQueues;
 use class_sets::ClassSet;
 use leaf_queue::QueueRule;
 use link_clock::LinkClock;
@@ -37,7 +37,7 @@ fn earlier(till: Option<u64>, start: u64) -> u64
 // The least moment from `now` on at which a class that waits may send.
 fn first_moment<Q: QueueRule + Drop>(
     shares: &Shares,
-    rows: &Rows<Q>,
+    rows: &ClassQueues<Q>,
     waiting: &ClassSet,
     now: u64,
     clock: &LinkClock,
@@ -68,7 +68,7 @@ fn first_moment<Q: QueueRule + Drop>(
 /// Asks who of those that are awake may send now, and only where nobody may computes the moments of all that wait.
 pub fn look<Q: QueueRule + Drop>(
     shares: &Shares,
-    rows: &Rows<Q>,
+    rows: &ClassQueues<Q>,
     waiting: &ClassSet,
     awake: &ClassSet,
     rings: &Rings,

@@ -21,7 +21,7 @@ use Rattle.cbq_model.specs.Choice.{may}
 use Rattle.cbq_model.specs.Tree.{class_of, is_root, lender_of, lenders_up}
 use Rattle.class_sets.specs.Held.{HeldBack}
 use Rattle.class_sets.specs.Marked.{marked}
-use Rattle.cbq_sharing.specs.Held.{AreAwake, AreHeld, IsHeld, IsUntold}
+use Rattle.cbq_sharing.specs.Held.{AreAwake, AreHeld, IsHeldBack, IsUntold}
 use Rattle.cbq_sharing.specs.Shared.{Shared, allows_end, head_len, may_end, no_estimate, own_now, situation_in}
 use Rattle.cbq_sharing.specs.Waiting.{AreWaiting, waits}
 use Rattle.cbq_sharing.proofs.Moments.{may_at, may_not}
@@ -51,7 +51,7 @@ alone_may d c end len alone inner refused =
     ∙ ap (λ (b : Bool). (b || allows_now (get_or d.estimates c no_estimate) end len) || false) inner
     ∙ ap (λ (b : Bool). b || false) refused
 
-held_may_not : (d : Shared) (lists : ℕ → List Entry) (clock : Clock) (now c len moment : ℕ) → IsHeld d c len moment → c < length d.tree
+held_may_not : (d : Shared) (lists : ℕ → List Entry) (clock : Clock) (now c len moment : ℕ) → IsHeldBack d c len moment → c < length d.tree
     → head_len (lists c) ≡ Some len → clock.rate ≡ d.rate → 0 < d.rate → end_of clock.rate clock.link now 0 < moment
     → may d.tree d.rate (situation_in d lists clock.link) c now ≡ false
 held_may_not d lists clock now c len moment h l e rate some late =
@@ -90,12 +90,12 @@ pub held_fewer : (d : Shared) (lists : ℕ → List Entry) (h k : HeldBack) → 
 held_fewer d lists h k a fewer same = record {
   rate = a.rate;
   wait = λ c e. a.wait c (fewer c e);
-  head = λ c n e f. let P : List ℕ → Type 0 = λ ms. IsHeld d c n (get_or ms c 0) in subst P (sym same) (a.head c n (fewer c e) f);
+  head = λ c n e f. let P : List ℕ → Type 0 = λ ms. IsHeldBack d c n (get_or ms c 0) in subst P (sym same) (a.head c n (fewer c e) f);
 }
 
 -- one more is held back
 pub held_more : (d : Shared) (lists : ℕ → List Entry) (h k : HeldBack) (class len : ℕ) → AreHeld d lists h → waits (lists class) ≡ 1
-    → head_len (lists class) ≡ Some len → IsHeld d class len (get_or k.moments class 0) → ((c : ℕ) → c ≢ class → marked k.set c ≡ marked h.set c)
+    → head_len (lists class) ≡ Some len → IsHeldBack d class len (get_or k.moments class 0) → ((c : ℕ) → c ≢ class → marked k.set c ≡ marked h.set c)
     → ((c : ℕ) → c ≢ class → get_or k.moments c 0 ≡ get_or h.moments c 0) → AreHeld d lists k
 held_more d lists h k class len a w f x others moments = record {
   rate = a.rate;
@@ -107,11 +107,11 @@ held_more d lists h k class len a w f x others moments = record {
     | inl same ↦
         let there : head_len (lists class) ≡ Some n = ap (λ (m : ℕ). head_len (lists m)) (sym same) ∙ g in
         let long : len ≡ n = cc in
-        let P : ℕ → Type 0 = λ m. IsHeld d m n (get_or k.moments m 0) in
-        let L : ℕ → Type 0 = λ m. IsHeld d class m (get_or k.moments class 0) in
+        let P : ℕ → Type 0 = λ m. IsHeldBack d m n (get_or k.moments m 0) in
+        let L : ℕ → Type 0 = λ m. IsHeldBack d class m (get_or k.moments class 0) in
         subst P (sym same) (subst L long x)
     | inr other ↦
-        let M : ℕ → Type 0 = λ m. IsHeld d c n m in
+        let M : ℕ → Type 0 = λ m. IsHeldBack d c n m in
         subst M (sym (moments c other)) (a.head c n (sym (others c other) ∙ e) g)
   ];
 }
@@ -145,13 +145,13 @@ from_by e rate l now len false false false free a s =
     }
 
 pub held_from : (d : Shared) (clock : Clock) (now len c start : ℕ) → clock.link.free ≤ now → clock.rate ≡ d.rate → lender_of (class_of d.tree c) ≡ None
-    → start ≡ own_now d.tree d.estimates clock.rate clock.link now len c → now + 1 < start → IsHeld d c len start
+    → start ≡ own_now d.tree d.estimates clock.rate clock.link now len c → now + 1 < start → IsHeldBack d c len start
 held_from d clock now len c start free rate alone is late =
     let e : Estimate = get_or d.estimates c no_estimate in
     let same : start ≡ own_now d.tree d.estimates d.rate clock.link now len c = is ∙ ap (λ (r : ℕ). own_now d.tree d.estimates r clock.link now len c) rate in
     let x = from_by e d.rate clock.link now len (is_root d.tree c) (int_lt (pos 0) e.average) (nat_le (wanted_now e len) (end_of d.rate clock.link now len)) free refl
     (omega (arith, late, same)) in
-    let P : ℕ → Type 0 = λ m. IsHeld d c len m in
+    let P : ℕ → Type 0 = λ m. IsHeldBack d c len m in
     subst P (sym same) (record { alone = alone; inner = x.inner; refused = x.refused })
 
 -- an offer changes no head

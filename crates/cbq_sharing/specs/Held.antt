@@ -14,7 +14,7 @@ use Rattle.cbq_sharing.specs.Waiting.{waits}
 
 -- a class that asks nobody for a loan allows no packet of a length that ends sooner than one that starts at `moment` and has the link's
 -- whole time for it
-pub record IsHeld (d : Shared) (c len moment : ℕ) : Type 0 where
+pub record IsHeldBack (d : Shared) (c len moment : ℕ) : Type 0 where
   pub alone : lender_of (class_of d.tree c) ≡ None
   pub inner : is_root d.tree c ≡ false
   pub refused : (end : ℕ) → end < moment + time_of len d.rate → allows_now (get_or d.estimates c no_estimate) end len ≡ false
@@ -23,7 +23,7 @@ pub record IsHeld (d : Shared) (c len moment : ℕ) : Type 0 where
 pub record AreHeld (d : Shared) (lists : ℕ → List Entry) (h : HeldBack) : Type 0 where
   pub rate : 0 < d.rate
   pub wait : (c : ℕ) → marked h.set c ≡ 1 → waits (lists c) ≡ 1
-  pub head : (c len : ℕ) → marked h.set c ≡ 1 → head_len (lists c) ≡ Some len → IsHeld d c len (get_or h.moments c 0)
+  pub head : (c len : ℕ) → marked h.set c ≡ 1 → head_len (lists c) ≡ Some len → IsHeldBack d c len (get_or h.moments c 0)
 
 -- a class is held back as before, and its average is the same
 pub record IsUntold (old : List ℕ) (before after : List Estimate) (c : ℕ) : Type 0 where

@@ -7,14 +7,14 @@ ghost use Rattle.cbq_sharing.specs.Held.{AreHeld};
 ghost use Rattle.cbq_sharing.specs.Waiting.{AreSized, AreWaiting};
 
 use crate::sharing::Shares;
-use class_rows::Rows;
-use class_sets::{ClassSet, Held};
+use class_rows::ClassQueues;
+use class_sets::{ClassSet, HeldClasses};
 use leaf_queue::QueueRule;
 use link_clock::LinkClock;
 
 /// Holds those classes back no longer that may send at `now`. A packet that goes on with the link's run may end sooner than by its own
 /// time, but by no more than the end of an empty packet shows. One division where a class is held back.
-pub fn wake(held: &mut Held, now: u64, clock: &LinkClock)
+pub fn wake(held: &mut HeldClasses, now: u64, clock: &LinkClock)
     requires free { clock.now.link.free ≤ now }
     requires early { now < 2 ^ 63 }
     ensures fewer { (c : ℕ) → marked held.new.set c ≡ 1 → marked held.old.set c ≡ 1 }
@@ -28,9 +28,9 @@ pub fn wake(held: &mut Held, now: u64, clock: &LinkClock)
 
 /// Holds those of the classes that were refused at `now` back which will be for longer than a nanosecond.
 pub fn hold_refused<Q: QueueRule + Drop>(
-    held: &mut Held,
+    held: &mut HeldClasses,
     shares: &Shares,
-    rows: &Rows<Q>,
+    rows: &ClassQueues<Q>,
     waiting: &ClassSet,
     refused: &ClassSet,
     now: u64,

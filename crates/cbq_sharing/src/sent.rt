@@ -9,7 +9,7 @@ ghost use Rattle.cbq_sharing.specs.Held.{IsUntold};
 ghost use Rattle.cbq_sharing.specs.Sent.{told_up, with_credit, with_estimates, with_last};
 
 use crate::sharing::{LEVELS, Shares};
-use class_sets::Held;
+use class_sets::HeldClasses;
 
 impl Shares {
     /// A class gains its quantum in each of `rounds` rounds, which are no more than it needs for a packet of 262,144 bytes.
@@ -67,10 +67,11 @@ impl Shares {
     }
 
     // Holds a class and those above it, over at most `levels` levels, back no longer: when they are told of a packet, their averages change.
-    fn free_up(&self, levels: u32, at: Option<u32>, held: &mut Held)
+    fn free_up(&self, levels: u32, at: Option<u32>, held: &mut HeldClasses)
         requires class { (p : ℕ) → at ≡ Some p → p < length self.now.tree }
         ensures here { (p : ℕ) → at ≡ Some p → 0 < levels → marked held.new.set p ≢ 1 }
-        ensures others { (c : ℕ) → marked held.new.set c ≡ 1 → (x : Ended) (es : List Estimate) → IsUntold held.old.set es (told_up levels self.now.tree at x es) c }
+        ensures others { (c : ℕ) → marked held.new.set c ≡ 1 → (x : Ended) (es : List Estimate)
+            → IsUntold held.old.set es (told_up levels self.now.tree at x es) c }
         ensures moments { held.new.moments ≡ held.old.moments }
     {
         let Some(class) = at else {
@@ -85,12 +86,15 @@ impl Shares {
     }
 
     /// Tells a class and those above it of a packet of `len` bytes that ended at the last end, and holds none of them back.
-    pub fn tell(&mut self, class: u32, len: u32, held: &mut Held)
+    pub fn tell(&mut self, class: u32, len: u32, held: &mut HeldClasses)
         requires class { class < length self.old.tree }
         requires early { self.old.ended < 2 ^ 63 + 2 ^ 62 }
         requires some_bytes { 1 ≤ len }
         requires few_bytes { len ≤ 262144 }
-        ensures told { self.new ≡ with_estimates self.old (told_up 8 self.old.tree (Some class) (record { end = self.old.ended; len = len }) self.old.estimates) }
+        ensures told { self.new ≡ with_estimates self.old (told_up 8 self.old.tree (Some class) (record {
+          end = self.old.ended;
+          len = len;
+        }) self.old.estimates) }
         ensures here { marked held.new.set class ≢ 1 }
         ensures others { (c : ℕ) → marked held.new.set c ≡ 1 → IsUntold held.old.set self.old.estimates self.new.estimates c }
         ensures moments { held.new.moments ≡ held.old.moments }

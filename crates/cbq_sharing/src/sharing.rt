@@ -5,7 +5,7 @@ ghost use Rattle.altq_model.specs.Link.{end_of};
 ghost use Rattle.link_clock.specs.Clock.{Clock};
 ghost use Rattle.cbq_model.specs.Choice.{rounds_for};
 ghost use Rattle.cbq_model.specs.Tree.{class_of, lender_of, lenders_up, quantum_of};
-ghost use Rattle.cbq_sharing.specs.Held.{IsHeld};
+ghost use Rattle.cbq_sharing.specs.Held.{IsHeldBack};
 ghost use Rattle.cbq_sharing.specs.Lent.{IsLent};
 ghost use Rattle.cbq_sharing.specs.Shared.{IsShared, IsTree, Shared, allows_end, borrows_from_root, is_free, least_with, may_end, own_now, start_now_in};
 
@@ -185,7 +185,7 @@ impl Shares {
         requires some_bytes { 1 ≤ len }
         requires few_bytes { len ≤ 262144 }
         requires rate { clock.now.rate ≡ self.now.rate }
-        ensures { IfSome result (λ moment. IsHeld self.now class len moment) }
+        ensures { IfSome result (λ moment. IsHeldBack self.now class len moment) }
     {
         if self.lender(class).is_some() {
             return None;

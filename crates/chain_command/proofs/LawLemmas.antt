@@ -10,7 +10,7 @@ use Rattle.altq_model.specs.declared.Placed.{Placed}
 use Rattle.altq_model.specs.declared.Verdict.{Verdict}
 use Rattle.altq_model.specs.declared.Verdict.TheVariants.{Keep, Mark, Drop}
 use Rattle.altq_model.specs.Departures.{Dressing, departed, departed_by}
-use Rattle.altq_model.specs.History.{Arrival, Decision, Event, Offered, Sent, Happened, bare, decided, dropped_by, journal}
+use Rattle.altq_model.specs.History.{Arrival, Decision, Event, Offered, Sent, LabelledEvent, unlabelled, decided, dropped_by, journal}
 use Rattle.altq_model.specs.Laws.{IsNotBefore, StartsAfter, at_of}
 use Rattle.altq_model.specs.Link.{HasLinkEnds, link}
 use Rattle.capture_model.specs.Capture.{End, IsCapture, Outcome, Record, outcome}
@@ -53,18 +53,18 @@ pub record Rise (rate : ℕ) (ns : List ℕ) (h : List Event) : Type 0 where
   pub rises : Rising 0 ns
   pub last : last_of 0 ns ≤ (link rate h).free
 
-one_more : (rate : ℕ) (dress : Dressing) (arrived : List Captured) (n : ℕ) (e : Event) (g : List Happened) → 0 < rate → HasLinkEnds rate (e ∷ bare g)
-    → (HasLinkEnds rate (bare g) → Rise rate (stamps (departed dress arrived g)) (bare g))
-    → Rise rate (stamps (departed dress arrived g ++ departed_by dress arrived n e g)) (e ∷ bare g)
+one_more : (rate : ℕ) (dress : Dressing) (arrived : List Captured) (n : ℕ) (e : Event) (g : List LabelledEvent) → 0 < rate → HasLinkEnds rate (e ∷ unlabelled g)
+    → (HasLinkEnds rate (unlabelled g) → Rise rate (stamps (departed dress arrived g)) (unlabelled g))
+    → Rise rate (stamps (departed dress arrived g ++ departed_by dress arrived n e g)) (e ∷ unlabelled g)
 one_more rate dress arrived n (Offered a w v) g pos h before =
     let x = before h in
-    let P : List Record → Type 0 = λ rs. Rise rate (stamps rs) (Offered a w v ∷ bare g) in
+    let P : List Record → Type 0 = λ rs. Rise rate (stamps rs) (Offered a w v ∷ unlabelled g) in
     subst P (sym (append-nil (departed dress arrived g))) (record { rises = x.rises; last = x.last })
 one_more rate dress arrived n (Sent s) g pos h before =
     let x = before h.2 in
     let ns = stamps (departed dress arrived g) in
-    let later = end_later rate (bare g) s.start s.len pos in
-    let P : List ℕ → Type 0 = λ ms. Rise rate ms (Sent s ∷ bare g) in
+    let later = end_later rate (unlabelled g) s.start s.len pos in
+    let P : List ℕ → Type 0 = λ ms. Rise rate ms (Sent s ∷ unlabelled g) in
     let last = x.last in
     let start = h.0 in
     let end = h.1 in
@@ -73,13 +73,13 @@ one_more rate dress arrived n (Sent s) g pos h before =
       last = (let is = last_append 0 ns s.end in omega (arith, is, end));
     })
 
-pub departures_rise : (rate : ℕ) (dress : Dressing) (arrived : List Captured) (g : List Happened) → 0 < rate → HasLinkEnds rate (bare g)
-    → Rise rate (stamps (departed dress arrived g)) (bare g)
+pub departures_rise : (rate : ℕ) (dress : Dressing) (arrived : List Captured) (g : List LabelledEvent) → 0 < rate → HasLinkEnds rate (unlabelled g)
+    → Rise rate (stamps (departed dress arrived g)) (unlabelled g)
 departures_rise rate dress arrived [] pos h = record { rises = tt; last = omega arith }
 departures_rise rate dress arrived (e ∷ g) pos h =
     one_more rate dress arrived e.label e.what g pos h (λ k. departures_rise rate dress arrived g pos k)
 
-pub rise_so : (rate : ℕ) (dress : Dressing) (arrived : List Captured) (g : List Happened) → 0 < rate → HasLinkEnds rate (bare g)
+pub rise_so : (rate : ℕ) (dress : Dressing) (arrived : List Captured) (g : List LabelledEvent) → 0 < rate → HasLinkEnds rate (unlabelled g)
     → Rising 0 (stamps (departed dress arrived g))
 rise_so rate dress arrived g pos h = (departures_rise rate dress arrived g pos h).rises
 
@@ -127,7 +127,7 @@ ends_append (d ∷ xs) ys = one_end d.1 (ends_of (xs ++ ys)) (ends_of xs) ys (en
     one_end (fate.Dropped reason) all front ys e = e
     one_end (fate.Sent start end rule) all front ys e = ap (λ (ns : List ℕ). end ∷ ns) e
 
-decided_ends : (dress : Dressing) (arrived : List Captured) (n : ℕ) (e : Event) (g : List Happened)
+decided_ends : (dress : Dressing) (arrived : List Captured) (n : ℕ) (e : Event) (g : List LabelledEvent)
     → ends_of (decided n e) ≡ stamps (departed_by dress arrived n e g)
 decided_ends dress arrived n (Offered a w v) g = offered v.verdict
   where
@@ -140,7 +140,7 @@ decided_ends dress arrived n (Sent s) g = refl
 both : (as' bs cs ds : List ℕ) → as' ≡ cs → bs ≡ ds → as' ++ bs ≡ cs ++ ds
 both as' bs cs ds e f = cc
 
-pub ends_are : (dress : Dressing) (arrived : List Captured) (g : List Happened) → ends_of (journal g) ≡ stamps (departed dress arrived g)
+pub ends_are : (dress : Dressing) (arrived : List Captured) (g : List LabelledEvent) → ends_of (journal g) ≡ stamps (departed dress arrived g)
 ends_are dress arrived [] = refl
 ends_are dress arrived (e ∷ g) =
     ends_append (journal g) (decided e.label e.what)
@@ -164,7 +164,7 @@ decided_after arrived n (Offered a w v) d s c = offered v.verdict c
     offered (Drop reason) c = subst (IsAfter arrived) (only_one (n, fate.Dropped reason) d c) tt
 decided_after arrived n (Sent s) d starts c = subst (IsAfter arrived) (only_one (n, fate.Sent s.start s.end s.rule) d c) starts
 
-pub starts_after : (arrived : List Arrival) (g : List Happened) (d : Decision) → IsNotBefore arrived g → Contains (journal g) d → IsAfter arrived d
+pub starts_after : (arrived : List Arrival) (g : List LabelledEvent) (d : Decision) → IsNotBefore arrived g → Contains (journal g) d → IsAfter arrived d
 starts_after arrived [] d h c = let l = c.1 in absurd (omega (arith, l))
 starts_after arrived (e ∷ g) d h c =
     by (λ x. starts_after arrived g d h.1 x) (Contains-append_cases (journal g) (decided e.label e.what) d c)

@@ -5,7 +5,7 @@ use Rattle.arrivals_front.specs.Given.{is_pcapng}
 use Rattle.altq_model.specs.Arrivals.{bare_arrivals}
 use Rattle.altq_model.specs.declared.Fate.TheVariants.{Sent}
 use Rattle.altq_model.specs.Departures.{departed}
-use Rattle.altq_model.specs.History.{Happened}
+use Rattle.altq_model.specs.History.{LabelledEvent}
 use Rattle.altq_model.specs.Play.{IsPlay}
 use Rattle.capture_model.specs.Capture.{End, IsCapture, Record}
 use Rattle.conf_laws.specs.Laws.{ConfigurationsFit}
@@ -80,7 +80,7 @@ one_sent u v n seed p h =
     (subst R reads (subst I one p.play)) h.played.play.play in
     ap (λ (k : Interface). departures_of (setup_of k seed) (arrivals_in (setup_of k seed) p.first.records) p.history) one
     ∙ ap (λ (rs : List Record). departures_of (setup_of j seed) (arrivals_in (setup_of j seed) rs) p.history) reads
-    ∙ ap (λ (g : List Happened). departures_of (setup_of j seed) (arrivals_in (setup_of j seed) h.played.records) g) history
+    ∙ ap (λ (g : List LabelledEvent). departures_of (setup_of j seed) (arrivals_in (setup_of j seed) h.played.records) g) history
 
 -- The laws of both plays. The stamps of the second play's records are those of what the first sent.
 module _ (u v e : View) (n : Links) (seed : ℕ) (fit : ConfigurationsFit) (x : HasPlayed u v n.first seed)

@@ -1,6 +1,6 @@
 -- What holds of a chain before its message is said holds of it after that.
 use Rattle.std.proofs.Common.{◌≡◌, ◌∙◌, ◌⊎◌, ℕ, List, Ok, Err, sym, subst, refl, inl, inr}
-use Rattle.play_base.specs.View.{View, Any}
+use Rattle.play_base.specs.View.{View, Everything}
 use Rattle.play_base.proofs.ViewLaws.{keeps_fewer, keeps_trans, rose_before}
 use Rattle.command_base.specs.Faults.{Untouched}
 use Rattle.command_base.specs.Names.{Names}
@@ -38,7 +38,7 @@ none_after most u v w o x = λ f p fresh e. x f p fresh (there_before v w f p o 
 
 -- as the second play sees them
 says_seen : (v w : View) (g : ℕ) → OnlySays v w → OnlySays (second_view v g) (second_view w g)
-says_seen v w g o = record { keeps = keeps_seen v w g Any Any o.keeps; none = none_appears v w g o.none }
+says_seen v w g o = record { keeps = keeps_seen v w g Everything Everything o.keeps; none = none_appears v w g o.none }
 
 abbrev played_after : (u v w : View) (n : Names) (seed : ℕ) → OnlySays v w → HasPlayed u v n seed → HasPlayed u w n seed
 played_after u v w n seed o h =
@@ -129,7 +129,7 @@ files_after u v w n o h =
         path = λ x. o.keeps.bytes _ tt ∙ (h.uncreated t).path (back 10 x);
       };
       few = few_after u v w n.first.config o h.few;
-      others = keeps_trans N F u v w h.others (keeps_fewer Any N Any F v w (λ m x. tt) (λ f x. tt) o.keeps);
+      others = keeps_trans N F u v w h.others (keeps_fewer Everything N Everything F v w (λ m x. tt) (λ f x. tt) o.keeps);
     }
 
 path_after : (u v w : View) (n : Links) (seed : ℕ) → OnlySays v w → HasPathFront u v n seed → HasPathFront u w n seed

@@ -2,7 +2,7 @@
 use Rattle.std.proofs.Common.{◌≡◌, ◌∙◌, ◌++◌, ℕ, List, [], None, Some, ap, refl, sym, inl, inr}
 use Rattle.std.proofs.lemmas.List.{append-nil, take-append-drop}
 use Rattle.std.specs.Prelude.{drop, take}
-use Rattle.play_base.specs.View.{View, Any, Created, Unchanged, Wrote}
+use Rattle.play_base.specs.View.{View, Everything, Created, Unchanged, Wrote}
 use Rattle.play_base.proofs.ViewLaws.{created_bytes, created_then, keeps_fewer, keeps_refl}
 use Rattle.command_base.proofs.PartLemmas.{new_part, none_some, there_or_not, there_then}
 use Rattle.chain_command.specs.Playing.{AddsFile}
@@ -12,7 +12,7 @@ pub adds_none : (a b : View) (part : ℕ) (name text : List ℕ) → Unchanged a
 adds_none a b part name text x = record {
   front = λ t. inl ((λ f fresh e. none_some part (sym (x.none f fresh) ∙ e)), x.keeps.bytes name tt);
   kept = λ none. x.keeps.bytes name tt;
-  keeps = keeps_fewer Any _ Any _ a b (λ m h. tt) (λ f h. tt) x.keeps;
+  keeps = keeps_fewer Everything _ Everything _ a b (λ m h. tt) (λ f h. tt) x.keeps;
   part = λ f p fresh e. absurd (none_some p (sym (x.none f fresh) ∙ e));
   one = λ f g p q fresh other e h. absurd (none_some p (sym (x.none f fresh) ∙ e));
   named = λ t f p fresh e. absurd (none_some p (sym (x.none f fresh) ∙ e));
@@ -21,7 +21,7 @@ adds_none a b part name text x = record {
 
 -- nothing was done
 pub adds_nothing : (a : View) (part : ℕ) (name text : List ℕ) → AddsFile a a part name text
-adds_nothing a part name text = adds_none a a part name text (record { keeps = keeps_refl Any Any a; none = λ f none. none; said = refl })
+adds_nothing a part name text = adds_none a a part name text (record { keeps = keeps_refl Everything Everything a; none = λ f none. none; said = refl })
 
 came : (a b c : View) (part : ℕ) (name bytes : List ℕ) (file : ℕ) → Created a b part name file → Wrote b c file bytes
     → (f p : ℕ) → a.part f ≡ None → c.part f ≡ Some p → (b.part f ≡ Some p) × (p ≡ part) × (f ≡ file)

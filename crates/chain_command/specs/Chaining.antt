@@ -1,7 +1,7 @@
 -- How `chain` ends: what done means, when each failure comes, what must come, and what is left.
 use Rattle.std.specs.Prelude.{◌≡◌, ◌≤◌, ◌⊎◌, ℕ, List, None, Some, Ok, Err, IsTrue}
 use Rattle.altq_model.specs.Arrivals.{bare_arrivals}
-use Rattle.altq_model.specs.History.{Happened}
+use Rattle.altq_model.specs.History.{LabelledEvent}
 use Rattle.altq_model.specs.Play.{IsPlay}
 use Rattle.capture_model.specs.declared.damage.Damage.{Damage}
 use Rattle.capture_model.specs.Capture.{End, Fault, Limit}
@@ -121,7 +121,7 @@ ChainComes old new n seed (Err failure) = ChainFails old new n seed failure
 -- the configuration has the first interface, the arrivals are a capture, every packet of its play ends in time, and this is that play
 pub record PassesOn (old : View) (n : Links) (seed : ℕ) : Type 0 where
   pub first : EndsWith old n.first seed End
-  pub history : List Happened
+  pub history : List LabelledEvent
   pub play : IsPlay (setup_of first.accepted.interface seed).policy first.accepted.interface.rate seed
       (bare_arrivals (arrivals_in (setup_of first.accepted.interface seed) first.records)) history
 

@@ -1,7 +1,7 @@
 -- The names of a chain: of the files of the play on each link, and of the paths.
 use Rattle.std.specs.Prelude.{ℕ, List, codes}
 use Rattle.command_base.specs.Names.{Names, names_of, names_read}
-use Rattle.play_words.specs.Words.{Words, option_of}
+use Rattle.play_words.specs.Words.{Arguments, option_of}
 use Rattle.play_words.specs.declared.words.ChainWords.{ChainWords}
 
 -- the names of the first play, then the second interface, the outputs of the second play, and the paths
@@ -24,7 +24,7 @@ second_names n = record {
   stats = n.stats;
 }
 
-abbrev pub links_of : Words → Links
+abbrev pub links_of : Arguments → Links
 links_of words = record {
   first = names_of words;
   next = option_of (codes "next") words;

@@ -3,7 +3,7 @@ use Rattle.std.proofs.Common.{◌≡◌, ◌⊎◌, ℕ, List, Ok, Err, sym, sub
 use Rattle.std.specs.Prelude.{IsTrue, OnErr}
 use Rattle.admission.specs.declared.Fit.{Fit}
 use Rattle.conf_tree.specs.declared.interface.Interface.{Interface}
-use Rattle.play_base.specs.View.{View, Any, Rose}
+use Rattle.play_base.specs.View.{View, Everything, Rose}
 use Rattle.play_base.specs.declared.trouble.Trouble.{Trouble}
 use Rattle.play_base.specs.declared.trouble.Trouble.TheVariants as trouble
 use Rattle.command_base.specs.Configuration.{Accepts}
@@ -98,7 +98,7 @@ check_told u v w config interface (Ok d) s h silent told =
 check_told u v w config interface (Err f) s h silent told = record {
   outcome = Err told.told;
   ends = ends_after u v w config interface f told.told told.only h told.same;
-  printed = message_behind Any Any u v w told.told h.leaves.keeps silent told.message;
+  printed = message_behind Everything Everything u v w told.told h.leaves.keeps silent told.message;
   status = told.status;
 }
 

@@ -15,7 +15,7 @@ use Rattle.altq_model.specs.Arrivals.{Captured, arrival, no_arrival, bare_arriva
 use Rattle.altq_model.specs.Counts.{counts_of, is_early, is_forced, is_full, is_sent, of_arrivals, of_decisions, one}
 use Rattle.altq_model.specs.declared.Verdict.{Verdict}
 use Rattle.altq_model.specs.declared.Verdict.TheVariants.{Keep, Mark, Drop}
-use Rattle.altq_model.specs.History.{Decision, Happened, dropped_by, journal}
+use Rattle.altq_model.specs.History.{Decision, LabelledEvent, dropped_by, journal}
 use Rattle.play_core.specs.declared.turn.Departure.{Departure}
 use Rattle.play_core.specs.declared.turn.Dropped.{Dropped}
 use Rattle.play_core.specs.declared.turn.LentPacket.{LentPacket}
@@ -144,7 +144,7 @@ raised_mine c xs a e =
     arrival_step (λ b. (b.class == c) && b.raised) one xs a
     ∙ ap (λ (b : Bool). of_arrivals (λ d. (d.class == c) && d.raised) one xs + (if b && a.raised then 1 else 0)) e
 
-read_moves : (xs : List Captured) (a : Captured) (g : List Happened) → AreOfArrivals (bare_arrivals xs) g
+read_moves : (xs : List Captured) (a : Captured) (g : List LabelledEvent) → AreOfArrivals (bare_arrivals xs) g
     → IsMoved a.class (counted.Arrived a.len a.raised) (λ c. counts_of c xs (journal g)) (λ c. counts_of c (xs ++ a ∷ []) (journal g))
 read_moves xs a g of = record {
   same = λ c n.
@@ -240,7 +240,7 @@ counted_more names arrived more js ls class what ks h m = record {
   counts_are = ap (count_at names class what) h.counts_are ∙ sym (tally_moves names class what (λ c. counts_of c arrived js) (λ c. counts_of c more ls) m h.names_are.rising);
 }
 
-pub counted_read : (names : NameList) (xs : List Captured) (a : Captured) (g : List Happened) (ks : List Counts) → HasCounted names xs (journal g) ks
+pub counted_read : (names : NameList) (xs : List Captured) (a : Captured) (g : List LabelledEvent) (ks : List Counts) → HasCounted names xs (journal g) ks
     → AreOfArrivals (bare_arrivals xs) g → HasCounted names (xs ++ a ∷ []) (journal g) (count_at names a.class (counted.Arrived a.len a.raised) ks)
 counted_read names xs a g ks h of = counted_more names xs (xs ++ a ∷ []) (journal g) (journal g) a.class (counted.Arrived a.len a.raised) ks h (read_moves xs a g of)
 

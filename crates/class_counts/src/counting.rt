@@ -73,7 +73,7 @@ fn add_one(counts: &mut Counts, what: Counted)
     }
 }
 
-/// Counts one more of a class. Takes no memory, in the time of a search for the class. Where a caller says what is counted, the rest of
+/// Counts one more of a class. Does not allocate, in the time of a search for the class. Where a caller says what is counted, the rest of
 /// it goes away.
 #[inline(always)]
 pub fn count(counts: &mut Vec<Counts>, names: &Names, class: u32, what: Counted)

@@ -1,7 +1,7 @@
 -- The front of a list that shows what waits in its class is the head of that class.
 use Rattle.std.proofs.Common.{◌≡◌, ℕ, List, [], ◌∷◌, ◌∙◌, Some, refl, ap}
 use Rattle.std.specs.Prelude.{slice_get}
-use Rattle.altq_model.specs.History.{Arrival, Happened, bare, waiting}
+use Rattle.altq_model.specs.History.{Arrival, LabelledEvent, unlabelled, waiting}
 use Rattle.leaf_queue.specs.declared.node.Entry.{Entry}
 use Rattle.discipline.specs.Laws.{Shows, seen, seen_of}
 
@@ -20,5 +20,5 @@ seen_front (y ∷ xs) (a ∷ ws) x e f =
     let long : y.len ≡ a.len = ap (λ (z : ℕ × ℕ). z.0) both in
     record { packet = a; front = refl; len = ap (λ (z : Entry). z.len) same ∙ long }
 
-pub front_shown : (c : ℕ) (xs : List Entry) (h : List Happened) (x : Entry) → Shows c xs h → slice_get xs 0 ≡ Some x → HasFront (waiting c (bare h)) x.len
-front_shown c xs h x s e = seen_front xs (waiting c (bare h)) x s.packets e
+pub front_shown : (c : ℕ) (xs : List Entry) (h : List LabelledEvent) (x : Entry) → Shows c xs h → slice_get xs 0 ≡ Some x → HasFront (waiting c (unlabelled h)) x.len
+front_shown c xs h x s e = seen_front xs (waiting c (unlabelled h)) x s.packets e

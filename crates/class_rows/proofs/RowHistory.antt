@@ -8,7 +8,7 @@ use Rattle.std.proofs.lemmas.Option.{slice_get-map, slice_get-get_or}
 use Rattle.altq_model.specs.declared.Reason.TheVariants.{Full}
 use Rattle.altq_model.specs.declared.Verdict.{Verdict}
 use Rattle.altq_model.specs.declared.Verdict.TheVariants.{Keep, Mark, Drop}
-use Rattle.altq_model.specs.History.{Arrival, DrawnWords, Answer, Event, Offered, Sent, Happened, Sending, bare, waiting, with_offer, without_head}
+use Rattle.altq_model.specs.History.{Arrival, DrawnWords, Answer, Event, Offered, Sent, LabelledEvent, Sending, unlabelled, waiting, with_offer, without_head}
 use Rattle.altq_model.specs.Lawful.{IsOneOf}
 use Rattle.leaf_queue.specs.declared.node.Entry.{Entry}
 use Rattle.leaf_queue.specs.Lists.{Listed, list_of, precs_in}
@@ -16,14 +16,14 @@ use Rattle.leaf_queue.specs.Words.{Drew}
 use Rattle.leaf_queue.specs.Queue.{QueueEvent, Enqueued, Saying, by_queue, by_queues, queue_at, told_of, waiting_of, precs_of}
 use Rattle.discipline.specs.Laws.{seen, seen_of, after_offer, after_sent, arrival_with, held_in, room_of}
 use Rattle.class_rows.specs.Leaf.{after_verdict, gone, HasPrecs}
-use Rattle.class_rows.specs.Rows.{Answers, Fit, IsRow, Rowed, RowsStand, SameRow, Told, answering, classes_in, limit_at, limit_in, limits_sum, list_at, list_in}
+use Rattle.class_rows.specs.Rows.{Answers, Fit, IsRow, ClassQueuesView, RowsStand, SameRow, RowRepresents, answering, classes_in, limit_at, limit_in, limits_sum, list_at, list_in}
 use Rattle.class_rows.proofs.ShowsLemmas.{shows_offered, shows_sent, seen_precs, told_here, told_there, gone_here, gone_there, seen-offer, seen-sent}
 use Rattle.class_rows.proofs.RowLemmas.{after_is, fit_at, fit_length, fit_set, fit_total, held_is, limit_here, limits_kept, list_at-here, list_at-set, map_kept, one_of, room_is, some_place}
 
 -- an event changes what waits in one class, and what its queue was told, alone
 pub record Others (class : ℕ) (e : Event) (b : List Event) : Type 0 where
   pub waits : (c : ℕ) → (class ≡ c → ⊥) → waiting c (e ∷ b) ≡ waiting c b
-  pub told : (c : ℕ) → (class ≡ c → ⊥) → told_of c (e ∷ b) ≡ told_of c b
+  pub recorded : (c : ℕ) → (class ≡ c → ⊥) → told_of c (e ∷ b) ≡ told_of c b
 
 -- the queue of a place
 queue_there : {Q : Type 0} (says : Q → Saying) (queues : List Q) (k : ℕ) (q : Q) → slice_get queues k ≡ Some q → queue_at (map says queues) k ≡ says q
@@ -55,7 +55,7 @@ record Turn (Q : Type 0) : Type 0 where
 record IsTurn {Q : Type 0} (stands : Q → List QueueEvent → Type 0) (x : Turn Q) : Type 0 where
   pub others : Others x.class x.event x.before
   pub waits : seen x.list ≡ seen_of (waiting x.class (x.event ∷ x.before))
-  pub told : stands x.queue (told_of x.class (x.event ∷ x.before))
+  pub recorded : stands x.queue (told_of x.class (x.event ∷ x.before))
 
 module _ {Q : Type 0} (stands : Q → List QueueEvent → Type 0) where
   rows_at : (c : ℕ) (queues : List Q) (lists : List (List Entry)) (b : List Event) (k class : ℕ) (q : Q) → RowsStand stands c queues lists b
@@ -75,7 +75,7 @@ module _ {Q : Type 0} (stands : Q → List QueueEvent → Type 0) where
       → stands q (told_of c b) → (seen xs ≡ seen_of (waiting c (e ∷ b))) × stands q (told_of c (e ∷ b))
   row_kept c class q xs e b o n s t =
       let P : List QueueEvent → Type 0 = λ k. stands q k in
-      (s ∙ ap seen_of (sym (o.waits c n)), subst P (sym (o.told c n)) t)
+      (s ∙ ap seen_of (sym (o.waits c n)), subst P (sym (o.recorded c n)) t)
 
   rows_kept : (c class : ℕ) (queues : List Q) (lists : List (List Entry)) (e : Event) (b : List Event) → Others class e b → class < c
       → RowsStand stands c queues lists b → RowsStand stands c queues lists (e ∷ b)
@@ -97,7 +97,7 @@ module _ {Q : Type 0} (stands : Q → List QueueEvent → Type 0) where
       let m : x.class ≡ c = omega arith in
       let P : ℕ → Type 0 = λ d. seen x.list ≡ seen_of (waiting d h) in
       let R : ℕ → Type 0 = λ d. stands x.queue (told_of d h) in
-      (subst P m t.waits, subst R m t.told, rows_kept (c + 1) x.class queues lists x.event x.before t.others (omega arith) s.2)
+      (subst P m t.waits, subst R m t.recorded, rows_kept (c + 1) x.class queues lists x.event x.before t.others (omega arith) s.2)
   rows_set c (p ∷ queues) (xs ∷ lists) (suc k) x n t s =
       let here = row_kept c x.class p xs x.event x.before t.others (λ d. omega arith) s.0 s.1 in
       (here.0, here.1, rows_set (c + 1) queues lists k x (omega arith) t s.2)
@@ -110,13 +110,13 @@ offer_stays (Drop r) x xs m e = refl
 others_offered : (a : Arrival) (w : DrawnWords) (s : Answer) (b : List Event) → Others a.class (Offered a w s) b
 others_offered a w s b = record {
   waits = λ c n. offer_stays s.verdict a (waiting c b) (eqb a.class c) (ne_eqb a.class c n);
-  told = λ c n. told_there c b a w s n;
+  recorded = λ c n. told_there c b a w s n;
 }
 
 others_sent : (s : Sending) (b : List Event) → Others s.class (Sent s) b
 others_sent s b = record {
   waits = λ c n. ap (λ (m : Bool). without_head m (waiting c b)) (ne_eqb s.class c n);
-  told = λ c n. gone_there c b s n;
+  recorded = λ c n. gone_there c b s n;
 }
 
 -- the list of each class, where that of one has changed
@@ -159,16 +159,16 @@ mine_sent xs s c b m h =
     seen-sent true xs (waiting c b) h ∙ ap (λ (t : Bool). seen_of (without_head t (waiting c b))) (sym (eq-eqb s.class c m))
 
 -- the place of a class
-pub record IsPlace {Q : Type 0} (d : Rowed Q) (class : ℕ) : Type 0 where
+pub record IsPlace {Q : Type 0} (d : ClassQueuesView Q) (class : ℕ) : Type 0 where
   pub low : d.first ≤ class
   pub there : class - d.first < length d.queues
   pub listed : class - d.first < length d.listed.lists
   pub is : d.first + (class - d.first) ≡ class
 
-abbrev pub IsRowed : {Q : Type 0} → (Q → ℕ) → (room : ℕ) → Rowed Q → Type 0
+abbrev pub IsRowed : {Q : Type 0} → (Q → ℕ) → (room : ℕ) → ClassQueuesView Q → Type 0
 IsRowed most room d = IsRow most d.first room d.queues d.holds d.listed
 
-module _ {Q : Type 0} (most : Q → ℕ) (room : ℕ) (d : Rowed Q) (i : IsRowed most room d) where
+module _ {Q : Type 0} (most : Q → ℕ) (room : ℕ) (d : ClassQueuesView Q) (i : IsRowed most room d) where
   place_of : (class : ℕ) → d.first ≤ class → class < d.first + length d.queues → IsPlace d class
   place_of class low high = record {
     low = low;
@@ -202,11 +202,11 @@ module _ {Q : Type 0} (most : Q → ℕ) (room : ℕ) (d : Rowed Q) (i : IsRowed
   bounded_row = omega (arith, within_row, room_row)
 
 -- the queue of a place
-pub queue_is : {Q : Type 0} (d : Rowed Q) (class : ℕ) (q : Q) → IsPlace d class → q ≡ get_or d.queues (class - d.first) q → slice_get d.queues (class - d.first) ≡ Some q
+pub queue_is : {Q : Type 0} (d : ClassQueuesView Q) (class : ℕ) (q : Q) → IsPlace d class → q ≡ get_or d.queues (class - d.first) q → slice_get d.queues (class - d.first) ≡ Some q
 queue_is d class q p e = slice_get-get_or d.queues (class - d.first) q p.there ∙ ap Some (sym e)
 
 -- the head of a class's list
-pub head_is : {Q : Type 0} (d : Rowed Q) (class : ℕ) → IsPlace d class → slice_get (list_of d.listed.lists (class - d.first)) 0 ≡ slice_get (list_in d class) 0
+pub head_is : {Q : Type 0} (d : ClassQueuesView Q) (class : ℕ) → IsPlace d class → slice_get (list_of d.listed.lists (class - d.first)) 0 ≡ slice_get (list_in d class) 0
 head_is d class p = ap (λ (xs : List Entry). slice_get xs 0) (sym (list_at-here d.first d.listed.lists (class - d.first) class p.listed p.is))
 
 -- the list of a place, after an offer
@@ -244,21 +244,21 @@ pub record Swap (Q : Type 0) : Type 0 where
   pub listed : Listed
 
 -- a row with another queue and other lists
-abbrev pub with_row : {Q : Type 0} → Rowed Q → (k : ℕ) → Q → Listed → Rowed Q
+abbrev pub with_row : {Q : Type 0} → ClassQueuesView Q → (k : ℕ) → Q → Listed → ClassQueuesView Q
 with_row d k q l = record { first = d.first; queues = set d.queues k q; holds = d.holds; listed = l }
 
-abbrev pub swapped : {Q : Type 0} → Rowed Q → (class : ℕ) → Swap Q → Rowed Q
+abbrev pub swapped : {Q : Type 0} → ClassQueuesView Q → (class : ℕ) → Swap Q → ClassQueuesView Q
 swapped d class o = with_row d (class - d.first) o.is o.listed
 
 -- the queues answer alike and have the same limit, and the lists have the same room
-pub record IsSwap {Q : Type 0} (says : Q → Saying) (most : Q → ℕ) (d : Rowed Q) (k : ℕ) (o : Swap Q) : Type 0 where
+pub record IsSwap {Q : Type 0} (says : Q → Saying) (most : Q → ℕ) (d : ClassQueuesView Q) (k : ℕ) (o : Swap Q) : Type 0 where
   pub there : slice_get d.queues k ≡ Some o.was
   pub same : says o.is ≡ says o.was
   pub limit : most o.is ≡ most o.was
   pub room : o.listed.room ≡ d.listed.room
 
 -- so it is the same row
-same_row : {Q : Type 0} (says : Q → Saying) (most : Q → ℕ) (d : Rowed Q) (k : ℕ) (o : Swap Q) → IsSwap says most d k o
+same_row : {Q : Type 0} (says : Q → Saying) (most : Q → ℕ) (d : ClassQueuesView Q) (k : ℕ) (o : Swap Q) → IsSwap says most d k o
     → SameRow most says d (with_row d k o.is o.listed)
 same_row says most d k o i = record {
   first = refl;
@@ -269,7 +269,7 @@ same_row says most d k o i = record {
 }
 
 -- and a sound one, where one list alone is another one that may be
-row_set : {Q : Type 0} (says : Q → Saying) (most : Q → ℕ) (room : ℕ) (d : Rowed Q) (k : ℕ) (o : Swap Q) (ys : List Entry) → IsRowed most room d
+row_set : {Q : Type 0} (says : Q → Saying) (most : Q → ℕ) (room : ℕ) (d : ClassQueuesView Q) (k : ℕ) (o : Swap Q) (ys : List Entry) → IsRowed most room d
     → IsSwap says most d k o → o.listed.lists ≡ set d.listed.lists k ys
     → (length ys ≤ length (list_of d.listed.lists k)) ⊎ ((slice_get d.holds k ≡ Some true) × (length ys ≤ most o.was)) → HasPrecs ys
     → IsRowed most room (with_row d k o.is o.listed)
@@ -292,16 +292,16 @@ Asks stands says p q xs o = (t : List QueueEvent) → stands p t → o.words.dra
 
 module _ {Q : Type 0} (stands : Q → List QueueEvent → Type 0) (says : Q → Saying) (most : Q → ℕ) where
   -- all that an offer does
-  pub record Offers (room : ℕ) (d e : Rowed Q) (o : Offering) : Type 0 where
+  pub record Offers (room : ℕ) (d e : ClassQueuesView Q) (o : Offering) : Type 0 where
     pub row : IsRowed most room e
     pub lists : (c : ℕ) → list_in e c ≡ after_offer o.verdict o.class o.entry (list_in d) c
     pub full : (o.verdict ≡ Drop Full) ↔ (length (list_in d o.class) ≡ limit_in most d o.class)
-    pub told : (h : List Happened) → Told stands d h → o.words.drawn < 2 ^ 64 - 1
+    pub recorded : (h : List LabelledEvent) → RowRepresents stands d h → o.words.drawn < 2 ^ 64 - 1
         → Answers stands says d e h o.class o.entry o.now o.words o.verdict o.after
     pub same : SameRow most says d e
 
   -- an offer to a queue class, which its queue answered
-  pub record IsOffered (d : Rowed Q) (n : Swap Q) (o : Offering) : Type 0 where
+  pub record IsOffered (d : ClassQueuesView Q) (n : Swap Q) (o : Offering) : Type 0 where
     pub place : IsPlace d o.class
     pub held : slice_get d.holds (o.class - d.first) ≡ Some true
     pub swap : IsSwap says most d (o.class - d.first) n
@@ -310,7 +310,7 @@ module _ {Q : Type 0} (stands : Q → List QueueEvent → Type 0) (says : Q → 
     pub full : (o.verdict ≡ Drop Full) ↔ (length (list_of d.listed.lists (o.class - d.first)) ≡ most n.was)
     pub asks : Asks stands says n.was n.is (list_of d.listed.lists (o.class - d.first)) o
 
-  pub offers : (room : ℕ) (d : Rowed Q) (n : Swap Q) (o : Offering) → IsRowed most room d → IsOffered d n o → Offers room d (swapped d o.class n) o
+  pub offers : (room : ℕ) (d : ClassQueuesView Q) (n : Swap Q) (o : Offering) → IsRowed most room d → IsOffered d n o → Offers room d (swapped d o.class n) o
   offers room d n o i f =
       let p : Q = n.was in
       let q : Q = n.is in
@@ -335,8 +335,8 @@ module _ {Q : Type 0} (stands : Q → List QueueEvent → Type 0) (says : Q → 
         row = row_set says most room d k n ys i f.swap is (inr (f.held, bounded_after v x xs (most p) at.0 f.full)) (precs_after v xs x at.1 f.small);
         lists = each;
         full = (λ e. ap length here ∙ f.full.0 e ∙ sym most_is, λ e. f.full.1 (sym (ap length here) ∙ e ∙ most_is));
-        told = λ h s few.
-            let b : List Event = bare h in
+        recorded = λ h s few.
+            let b : List Event = unlabelled h in
             let a : Arrival = arrival_with class x.len x.prec now in
             let t : List QueueEvent = told_of class b in
             let row = rows_at stands d.first d.queues d.listed.lists b k class p s.rows there place.is in
@@ -355,12 +355,12 @@ module _ {Q : Type 0} (stands : Q → List QueueEvent → Type 0) (says : Q → 
             record {
               verdict = r.0;
               words = r.1;
-              told = record {
+              recorded = record {
                 shown = shows_offered (list_in d) (list_in (swapped d class n)) h x a w answer v s.shown r.0 refl refl each;
                 rows = subst L (sym is) (rows_set stands d.first d.queues d.listed.lists k turn place.is (record {
                   others = others_offered a w answer b;
                   waits = mine_offered v x xs a class b w answer r.0 refl refl refl row.0;
-                  told = subst T (sym (told_here class b a w answer refl)) r.2;
+                  recorded = subst T (sym (told_here class b a w answer refl)) r.2;
                 }) s.rows);
               };
             };
@@ -368,21 +368,21 @@ module _ {Q : Type 0} (stands : Q → List QueueEvent → Type 0) (says : Q → 
       }
 
   -- all that the leaving of a head does
-  pub record Leaves (room : ℕ) (d e : Rowed Q) (class now : ℕ) : Type 0 where
+  pub record Leaves (room : ℕ) (d e : ClassQueuesView Q) (class now : ℕ) : Type 0 where
     pub row : IsRowed most room e
     pub lists : (c : ℕ) → list_in e c ≡ after_sent class (list_in d) c
-    pub told : (h : List Happened) → Told stands d h → (n : ℕ) (s : Sending) → s.class ≡ class → s.start ≡ now
-        → Told stands e (record { label = n; what = Sent s } ∷ h)
+    pub recorded : (h : List LabelledEvent) → RowRepresents stands d h → (n : ℕ) (s : Sending) → s.class ≡ class → s.start ≡ now
+        → RowRepresents stands e (record { label = n; what = Sent s } ∷ h)
     pub same : SameRow most says d e
 
   -- the head of a class left, and its queue was told
-  pub record IsLeft (d : Rowed Q) (class now : ℕ) (n : Swap Q) : Type 0 where
+  pub record IsLeft (d : ClassQueuesView Q) (class now : ℕ) (n : Swap Q) : Type 0 where
     pub place : IsPlace d class
     pub swap : IsSwap says most d (class - d.first) n
     pub lists : n.listed.lists ≡ set d.listed.lists (class - d.first) (drop 1 (list_of d.listed.lists (class - d.first)))
     pub goes : (t : List QueueEvent) → stands n.was t → stands n.is (gone now (list_of d.listed.lists (class - d.first)) t)
 
-  pub leaves : (room : ℕ) (d : Rowed Q) (class now : ℕ) (n : Swap Q) → IsRowed most room d → IsLeft d class now n → Leaves room d (swapped d class n) class now
+  pub leaves : (room : ℕ) (d : ClassQueuesView Q) (class now : ℕ) (n : Swap Q) → IsRowed most room d → IsLeft d class now n → Leaves room d (swapped d class n) class now
   leaves room d class now n i f =
       let q : Q = n.is in
       let place = f.place in
@@ -395,8 +395,8 @@ module _ {Q : Type 0} (stands : Q → List QueueEvent → Type 0) (says : Q → 
       record {
         row = row_set says most room d k n (drop 1 xs) i f.swap f.lists (inl (length_drop xs)) (precs_drop xs at.1);
         lists = each;
-        told = λ h y m s is start.
-            let b : List Event = bare h in
+        recorded = λ h y m s is start.
+            let b : List Event = unlabelled h in
             let row = rows_at stands d.first d.queues d.listed.lists b k class n.was y.rows there place.is in
             let T : List QueueEvent → Type 0 = λ t. stands q t in
             let N : ℕ → Type 0 = λ u. stands q (gone u xs (told_of class b)) in
@@ -409,7 +409,7 @@ module _ {Q : Type 0} (stands : Q → List QueueEvent → Type 0) (says : Q → 
               rows = subst L (sym f.lists) (rows_set stands d.first d.queues d.listed.lists k turn place.is (record {
                 others = subst C is (others_sent s b);
                 waits = mine_sent xs s class b is row.0;
-                told = subst T (sym (gone_here class b s xs is row.0)) (subst N (sym start) (f.goes (told_of class b) row.1));
+                recorded = subst T (sym (gone_here class b s xs is row.0)) (subst N (sym start) (f.goes (told_of class b) row.1));
               }) y.rows);
             };
         same = same_row says most d k n f.swap;

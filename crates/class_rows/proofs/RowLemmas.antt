@@ -17,18 +17,18 @@ use Rattle.class_rows.specs.Leaf.{after_verdict, HasPrecs}
 use Rattle.class_rows.specs.Rows.{Fit, RowsStand, holding, limit_at, limits_of, limits_sum, list_at, most_of}
 
 -- which classes there are
-pub record IsHeld (class c : ℕ) (hs : List Bool) : Type 0 where
+pub record HasClass (class c : ℕ) (hs : List Bool) : Type 0 where
   pub low : c ≤ class
   pub high : class < c + length hs
   pub held : slice_get hs (class - c) ≡ Some true
 
-held_later : (class c : ℕ) (h : Bool) (hs : List Bool) → IsHeld class (c + 1) hs → IsHeld class c (h ∷ hs)
+held_later : (class c : ℕ) (h : Bool) (hs : List Bool) → HasClass class (c + 1) hs → HasClass class c (h ∷ hs)
 held_later class c h hs x =
     let n : suc (class - (c + 1)) ≡ class - c = omega (arith, x.low) in
     let P : ℕ → Type 0 = λ k. slice_get (h ∷ hs) k ≡ Some true in
     record { low = omega (arith, x.low); high = omega (arith, x.high); held = subst P n x.held }
 
-pub one_of : (class c : ℕ) (hs : List Bool) → IsOneOf class (holding c hs) → IsHeld class c hs
+pub one_of : (class c : ℕ) (hs : List Bool) → IsOneOf class (holding c hs) → HasClass class c hs
 one_of class c [] o = absurd o
 one_of class c (true ∷ hs) (inl e) =
     let n : 0 ≡ class - c = omega (arith, e) in

@@ -4,7 +4,7 @@ use Rattle.std.specs.Prelude.{◌==◌}
 use Rattle.std.proofs.lemmas.Bool.{eq-eqb, ne_eqb}
 use Rattle.altq_model.specs.declared.Verdict.{Verdict}
 use Rattle.altq_model.specs.declared.Verdict.TheVariants.{Keep, Mark, Drop}
-use Rattle.altq_model.specs.History.{Arrival, DrawnWords, Answer, Event, Offered, Sent, Happened, Sending, bare, waiting, with_offer, without_head}
+use Rattle.altq_model.specs.History.{Arrival, DrawnWords, Answer, Event, Offered, Sent, LabelledEvent, Sending, unlabelled, waiting, with_offer, without_head}
 use Rattle.leaf_queue.specs.declared.node.Entry.{Entry}
 use Rattle.leaf_queue.specs.Lists.{precs_in}
 use Rattle.leaf_queue.specs.Queue.{QueueEvent, Enqueued, Dequeued, waiting_of, precs_of, told_of, head_gone}
@@ -65,7 +65,7 @@ seen-sent true xs ws e = seen-drop xs ∙ ap (drop 1) e ∙ sym (seen_of-drop ws
 seen-sent false xs ws e = e
 
 -- every list after an offer
-pub shows_offered : (lists new : ℕ → List Entry) (h : List Happened) (x : Entry) (a : Arrival) (w : DrawnWords) (s : Answer) (v : Verdict)
+pub shows_offered : (lists new : ℕ → List Entry) (h : List LabelledEvent) (x : Entry) (a : Arrival) (w : DrawnWords) (s : Answer) (v : Verdict)
     → ((c : ℕ) → Shows c (lists c) h) → v ≡ s.verdict → x.len ≡ a.len → x.prec ≡ a.prec
     → ((c : ℕ) → new c ≡ after_offer v a.class x lists c)
     → (c : ℕ) → Shows c (new c) ((record { label = x.ticket.0; what = Offered a w s }) ∷ h)
@@ -74,18 +74,18 @@ shows_offered lists new h x a w s v k e l p n c =
     let same : new c ≡ with_offer m s.verdict x (lists c) = n c ∙ ap (λ (u : Verdict). with_offer m u x (lists c)) e in
     record {
       labels = ap tickets same ∙ tickets-offer m s.verdict x (lists c) ∙ ap (with_offer m s.verdict x.ticket.0) (k c).labels;
-      packets = ap seen same ∙ seen-offer m s.verdict x (lists c) a (waiting c (bare h)) l p (k c).packets;
+      packets = ap seen same ∙ seen-offer m s.verdict x (lists c) a (waiting c (unlabelled h)) l p (k c).packets;
     }
 
 -- every list after a sending
-pub shows_sent : (lists new : ℕ → List Entry) (h : List Happened) (n : ℕ) (s : Sending)
+pub shows_sent : (lists new : ℕ → List Entry) (h : List LabelledEvent) (n : ℕ) (s : Sending)
     → ((c : ℕ) → Shows c (lists c) h) → ((c : ℕ) → new c ≡ after_sent s.class lists c)
     → (c : ℕ) → Shows c (new c) ((record { label = n; what = Sent s }) ∷ h)
 shows_sent lists new h n s k e c =
     let m : Bool = s.class == c in
     record {
       labels = ap tickets (e c) ∙ tickets-sent m (lists c) ∙ ap (without_head m) (k c).labels;
-      packets = ap seen (e c) ∙ seen-sent m (lists c) (waiting c (bare h)) (k c).packets;
+      packets = ap seen (e c) ∙ seen-sent m (lists c) (waiting c (unlabelled h)) (k c).packets;
     }
 
 pub seen_length : (xs : List Entry) (ws : List Arrival) → seen xs ≡ seen_of ws → length xs ≡ length ws

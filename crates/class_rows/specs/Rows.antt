@@ -2,7 +2,7 @@
 -- queue classes.
 use Rattle.std.specs.Prelude.{◌≡◌, ◌≤◌, ◌<◌, ◌==◌, ◌+◌, ℕ, Bool, List, [], ◌∷◌, length, map, if◌then◌else◌}
 use Rattle.altq_model.specs.declared.Verdict.{Verdict}
-use Rattle.altq_model.specs.History.{DrawnWords, Event, Offered, Happened, bare, waiting}
+use Rattle.altq_model.specs.History.{DrawnWords, Event, Offered, LabelledEvent, unlabelled, waiting}
 use Rattle.altq_model.specs.Policies.{Answering}
 use Rattle.leaf_queue.specs.declared.node.Entry.{Entry}
 use Rattle.leaf_queue.specs.Lists.{Listed}
@@ -41,30 +41,30 @@ limits_of most (q ∷ queues) [] = []
 limits_of most (q ∷ queues) (h ∷ hs) = most_of most q h ∷ limits_of most queues hs
 
 -- what contracts see: the number of the first class, the queues, which classes are queue classes, and the lists
-pub record Rowed (Q : Type 0) : Type 0 where
+pub record ClassQueuesView (Q : Type 0) : Type 0 where
   pub first : ℕ
   pub queues : List Q
   pub holds : List Bool
   pub listed : Listed
 
 -- the list of a class
-abbrev pub list_in : {Q : Type 0} → Rowed Q → (class : ℕ) → List Entry
+abbrev pub list_in : {Q : Type 0} → ClassQueuesView Q → (class : ℕ) → List Entry
 list_in d = list_at d.first d.listed.lists
 
 -- its limit
-abbrev pub limit_in : {Q : Type 0} → (Q → ℕ) → Rowed Q → (class : ℕ) → ℕ
+abbrev pub limit_in : {Q : Type 0} → (Q → ℕ) → ClassQueuesView Q → (class : ℕ) → ℕ
 limit_in most d = limit_at d.first (limits_of most d.queues d.holds)
 
 -- the queue classes
-abbrev pub classes_in : {Q : Type 0} → Rowed Q → List ℕ
+abbrev pub classes_in : {Q : Type 0} → ClassQueuesView Q → List ℕ
 classes_in d = holding d.first d.holds
 
 -- a number that is none of the classes'
-abbrev pub IsOther : {Q : Type 0} → Rowed Q → (class : ℕ) → Type 0
+abbrev pub IsOther : {Q : Type 0} → ClassQueuesView Q → (class : ℕ) → Type 0
 IsOther d class = d.first ≤ class → class < d.first + length d.queues → ⊥
 
 -- what the queues answer, after a history
-abbrev pub answering : {Q : Type 0} → (Q → Saying) → Rowed Q → Answering
+abbrev pub answering : {Q : Type 0} → (Q → Saying) → ClassQueuesView Q → Answering
 answering says d = by_queues d.first (map says d.queues)
 
 -- no list is longer than it may be
@@ -93,22 +93,22 @@ RowsStand stands c (q ∷ queues) (xs ∷ lists) b =
     (seen xs ≡ seen_of (waiting c b)) × stands q (told_of c b) × RowsStand stands (c + 1) queues lists b
 
 -- the row stands for a history
-pub record Told {Q : Type 0} (stands : Q → List QueueEvent → Type 0) (d : Rowed Q) (h : List Happened) : Type 0 where
+pub record RowRepresents {Q : Type 0} (stands : Q → List QueueEvent → Type 0) (d : ClassQueuesView Q) (h : List LabelledEvent) : Type 0 where
   pub shown : (c : ℕ) → Shows c (list_in d c) h
-  pub rows : RowsStand stands d.first d.queues d.listed.lists (bare h)
+  pub rows : RowsStand stands d.first d.queues d.listed.lists (unlabelled h)
 
 -- after a history an offer was answered by the class's queue, and the row stands for the history with it
-pub record Answers {Q : Type 0} (stands : Q → List QueueEvent → Type 0) (says : Q → Saying) (old new : Rowed Q) (h : List Happened)
+pub record Answers {Q : Type 0} (stands : Q → List QueueEvent → Type 0) (says : Q → Saying) (old new : ClassQueuesView Q) (h : List LabelledEvent)
     (class : ℕ) (x : Entry) (now : ℕ) (before : DrawnWords) (v : Verdict) (after : DrawnWords) : Type 0 where
-  pub verdict : v ≡ (answering says old (bare h) before (arrival_with class x.len x.prec now)).verdict
-  pub words : Drew before after (answering says old (bare h) before (arrival_with class x.len x.prec now)).took
-  pub told : Told stands new (record {
+  pub verdict : v ≡ (answering says old (unlabelled h) before (arrival_with class x.len x.prec now)).verdict
+  pub words : Drew before after (answering says old (unlabelled h) before (arrival_with class x.len x.prec now)).took
+  pub recorded : RowRepresents stands new (record {
     label = x.ticket.0;
-    what = Offered (arrival_with class x.len x.prec now) before (answering says old (bare h) before (arrival_with class x.len x.prec now));
+    what = Offered (arrival_with class x.len x.prec now) before (answering says old (unlabelled h) before (arrival_with class x.len x.prec now));
   } ∷ h)
 
 -- the same classes with queues that answer alike
-pub record SameRow {Q : Type 0} (most : Q → ℕ) (says : Q → Saying) (old new : Rowed Q) : Type 0 where
+pub record SameRow {Q : Type 0} (most : Q → ℕ) (says : Q → Saying) (old new : ClassQueuesView Q) : Type 0 where
   pub first : new.first ≡ old.first
   pub holds : new.holds ≡ old.holds
   pub count : length new.queues ≡ length old.queues
@@ -116,7 +116,7 @@ pub record SameRow {Q : Type 0} (most : Q → ℕ) (says : Q → Saying) (old ne
   pub answers : answering says new ≡ answering says old
 
 -- a queue that was asked and told nothing, with a limit that is allowed
-pub record IsNew {Q : Type 0} (stands : Q → List QueueEvent → Type 0) (most : Q → ℕ) (q : Q) : Type 0 where
-  pub told : stands q []
+pub record IsNewQueue {Q : Type 0} (stands : Q → List QueueEvent → Type 0) (most : Q → ℕ) (q : Q) : Type 0 where
+  pub recorded : stands q []
   pub least : 1 ≤ most q
   pub most_allowed : most q ≤ 10000

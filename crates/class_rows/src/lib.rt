@@ -5,4 +5,4 @@
 mod leaf;
 mod rows;
 
-pub use rows::Rows;
+pub use rows::ClassQueues;

@@ -2,9 +2,9 @@
 ghost use Rattle.std.specs.Prelude.{◌≡◌, ◌≤◌, ◌<◌, ◌+◌, ◌-◌, ◌^◌, ◌∷◌, ◌↔◌, [], ℕ, List, All, IfOk, length, map, slice_get};
 ghost use Rattle.altq_model.specs.declared.Reason.{Reason};
 ghost use Rattle.altq_model.specs.Lawful.{IsOneOf};
-ghost use Rattle.altq_model.specs.History.{Happened, Sent, Sending};
+ghost use Rattle.altq_model.specs.History.{LabelledEvent, Sent, Sending};
 ghost use Rattle.discipline.specs.Laws.{after_offer, after_sent, held_in, room_of};
-ghost use Rattle.class_rows.specs.Rows.{Answers, IsNew, IsOther, IsRow, Rowed, SameRow, Told, classes_in, holding, limit_in, limits_of, limits_sum, list_in, most_of};
+ghost use Rattle.class_rows.specs.Rows.{Answers, IsNewQueue, IsOther, IsRow, ClassQueuesView, SameRow, RowRepresents, classes_in, holding, limit_in, limits_of, limits_sum, list_in, most_of};
 
 use crate::leaf::{offer_to, take_from};
 use leaf_queue::{Entry, Lists, QueueRule, Verdict, Words};
@@ -15,7 +15,7 @@ use std::marker::Model;
 /// The queues of consecutive classes, numbered from a first one on. Contracts see the number of the first, the queues, which of them are those of
 /// queue classes, and the lists.
 #[derive(Drop)]
-pub struct Rows<Q: QueueRule + Drop> {
+pub struct ClassQueues<Q: QueueRule + Drop> {
     first: u32,
     queues: Vec<Q>,
     holds: Vec<bool>,
@@ -23,8 +23,8 @@ pub struct Rows<Q: QueueRule + Drop> {
     room: u32,
 }
 
-impl<Q: QueueRule + Drop> Model for Rows<Q> {
-    ghost Value = { Rowed Q };
+impl<Q: QueueRule + Drop> Model for ClassQueues<Q> {
+    ghost Value = { ClassQueuesView Q };
 
     ghost view = { λ r. record { first = r.first; queues = r.queues.items; holds = r.holds.items; listed = r.lists } };
 
@@ -53,7 +53,7 @@ fn sum_of<Q: QueueRule>(queues: &[Q], holds: &[bool]) -> u32
     sum
 }
 
-impl<Q: QueueRule + Drop> Rows<Q> {
+impl<Q: QueueRule + Drop> ClassQueues<Q> {
     /// The classes `first`, `first` + 1 and so on, one for each of at most 256 queues, which stand for nothing asked or told yet and
     /// hold 1 to 10,000 packets; `holds` says of each whether it is a queue class. Takes all the memory that it will ever take;
     /// `NoMemory` comes only when memory runs out.
@@ -62,18 +62,18 @@ impl<Q: QueueRule + Drop> Rows<Q> {
         first: u32,
         queues: Vec<Q>,
         holds: Vec<bool>,
-    ) -> Result<Rows<Q>, NoMemory>
+    ) -> Result<ClassQueues<Q>, NoMemory>
         requires most { length queues.items ≤ 256 }
         requires one_each { length holds.items ≡ length queues.items }
-        requires queues { All (IsNew Q.stands Q.most) queues.items }
-        ensures told { IfOk result (λ r. Told Q.stands r []) }
+        requires queues { All (IsNewQueue Q.stands Q.most) queues.items }
+        ensures recorded { IfOk result (λ r. RowRepresents Q.stands r []) }
         ensures first { IfOk result (λ r. r.first ≡ first) }
         ensures queues { IfOk result (λ r. r.queues ≡ queues.items) }
         ensures holds { IfOk result (λ r. r.holds ≡ holds.items) }
     {
         let room = sum_of(&queues, &holds);
         let lists = Lists::reserve(alloc, queues.len() as u32, room)?;
-        Ok(Rows {
+        Ok(ClassQueues {
             first,
             queues,
             holds,
@@ -91,7 +91,7 @@ impl<Q: QueueRule + Drop> Rows<Q> {
         self.room
     }
 
-    /// The number of the first class. Every other class than these has an empty list. Takes no memory.
+    /// The number of the first class. Every other class than these has an empty list. Does not allocate.
     pub fn first(&self) -> u32
         ensures first { result ≡ self.now.first }
         ensures others { (c : ℕ) → IsOther self.now c → list_in self.now c ≡ [] }
@@ -99,14 +99,14 @@ impl<Q: QueueRule + Drop> Rows<Q> {
         self.first
     }
 
-    /// How many classes there are. Takes no memory.
+    /// How many classes there are. Does not allocate.
     pub fn count(&self) -> u32
         ensures { result ≡ length self.now.queues }
     {
         self.queues.len() as u32
     }
 
-    /// The head of a class's list: `None` exactly where that is empty. Takes no memory.
+    /// The head of a class's list: `None` exactly where that is empty. Does not allocate.
     pub fn head(&self, class: u32) -> Option<Entry>
         requires low { self.now.first ≤ class }
         requires high { class < self.now.first + length self.now.queues }
@@ -116,14 +116,14 @@ impl<Q: QueueRule + Drop> Rows<Q> {
     }
 
     /// Offers a packet to the queue of a queue class, and puts it at the end of its list if it is kept. It is dropped as `Full`
-    /// exactly where the queue is at its limit. Takes no memory.
+    /// exactly where the queue is at its limit. Does not allocate.
     #[inline(always)]
     pub fn offer(&mut self, class: u32, entry: Entry, now: u64, words: &mut Words) -> Verdict
         requires class { IsOneOf class (classes_in self.old) }
         requires prec { entry.prec ≤ 2 }
         ensures lists { (c : ℕ) → list_in self.new c ≡ after_offer result class entry (list_in self.old) c }
         ensures full { (result ≡ Verdict.Drop Reason.Full) ↔ (length (list_in self.old class) ≡ limit_in Q.most self.old class) }
-        ensures told { (h : List Happened) → Told Q.stands self.old h → words.old.drawn < 2 ^ 64 - 1
+        ensures recorded { (h : List LabelledEvent) → RowRepresents Q.stands self.old h → words.old.drawn < 2 ^ 64 - 1
             → Answers Q.stands Q.says self.old self.new h class entry now words.old result words.new }
         ensures within { held_in (list_in self.new) (classes_in self.new) ≤ room_of (limit_in Q.most self.new) (classes_in self.new) }
         ensures same { SameRow Q.most Q.says self.old self.new }
@@ -133,13 +133,13 @@ impl<Q: QueueRule + Drop> Rows<Q> {
         offer_to(queue, &mut self.lists, place, entry, now, words)
     }
 
-    /// Takes the head of a class's list, which is not empty, and tells its queue. Takes no memory.
+    /// Takes the head of a class's list, which is not empty, and tells its queue. Does not allocate.
     #[inline(always)]
     pub fn take(&mut self, class: u32, now: u64)
         requires some { 0 < length (list_in self.old class) }
         ensures lists { (c : ℕ) → list_in self.new c ≡ after_sent class (list_in self.old) c }
-        ensures told { (h : List Happened) → Told Q.stands self.old h → (n : ℕ) (s : Sending) → s.class ≡ class → s.start ≡ now
-            → Told Q.stands self.new (record { label = n; what = Sent s } ∷ h) }
+        ensures recorded { (h : List LabelledEvent) → RowRepresents Q.stands self.old h → (n : ℕ) (s : Sending) → s.class ≡ class → s.start ≡ now
+            → RowRepresents Q.stands self.new (record { label = n; what = Sent s } ∷ h) }
         ensures within { held_in (list_in self.new) (classes_in self.new) ≤ room_of (limit_in Q.most self.new) (classes_in self.new) }
         ensures same { SameRow Q.most Q.says self.old self.new }
     {

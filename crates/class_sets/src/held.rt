@@ -10,14 +10,14 @@ use std::marker::Model;
 /// Classes below 256 that are held back, each till a moment of its own. None of them is earlier than that of its group of 16 classes, and no
 /// group's than `until`. Contracts see the set and the moments.
 #[derive(Drop)]
-pub struct Held {
+pub struct HeldClasses {
     set: ClassSet,
     moments: Vec<u64>,
     groups: Vec<u64>,
     until: u64,
 }
 
-impl Model for Held {
+impl Model for HeldClasses {
     ghost use Rattle.class_sets.specs.Held.{AreNoSooner, HeldBack};
 
     ghost Value = { HeldBack };
@@ -75,14 +75,14 @@ fn take_all_due(set: &mut ClassSet, moments: &[u64], groups: &mut [u64], now: u6
     until
 }
 
-impl Held {
+impl HeldClasses {
     /// No class is held back. Takes all the memory that it will ever take; `NoMemory` comes only when memory runs out.
-    pub fn none(alloc: Global) -> Result<Held, NoMemory>
+    pub fn none(alloc: Global) -> Result<HeldClasses, NoMemory>
         ensures { IfOk result (λ h. (c : ℕ) → marked h.set c ≡ 0) }
     {
         let moments = vec![in alloc; 0; 256]?;
         let groups = vec![in alloc; u64::MAX; 16]?;
-        Ok(Held {
+        Ok(HeldClasses {
             set: ClassSet::none(),
             moments,
             groups,

@@ -4,5 +4,5 @@
 mod held;
 mod set;
 
-pub use held::Held;
+pub use held::HeldClasses;
 pub use set::ClassSet;

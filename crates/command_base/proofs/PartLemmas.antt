@@ -1,7 +1,7 @@
 -- Which files are there, and which came to be.
 use Rattle.std.proofs.Common.{◌≡◌, ◌≢◌, ◌≤◌, ◌<◌, ◌∙◌, ◌⊎◌, ℕ, List, None, Some, ap, sym, refl, inl, inr, arith}
 use Rattle.std.specs.declared.option.Option.{Option}
-use Rattle.play_base.specs.View.{View, IsNew, NoneAppears}
+use Rattle.play_base.specs.View.{View, IsNewFile, NoneAppears}
 
 pub none_some : (p : ℕ) → None ≡ Some p → ⊥
 none_some p h = cc
@@ -16,12 +16,12 @@ pub short_or_long : (n m : ℕ) → (n < m) ⊎ (m ≤ n)
 short_or_long n m = grind arith
 
 -- what a new file has, every new file has
-by_same : (a b : View) (part : ℕ) (name : List ℕ) (file f p : ℕ) → IsNew a b part name file → a.part f ≡ None → b.part f ≡ Some p
+by_same : (a b : View) (part : ℕ) (name : List ℕ) (file f p : ℕ) → IsNewFile a b part name file → a.part f ≡ None → b.part f ≡ Some p
     → (f ≡ file) ⊎ (f ≢ file) → (p ≡ part) × (f ≡ file)
 by_same a b part name file f p x fresh e (inl s) = (same_part p part (sym e ∙ ap b.part s ∙ x.part), s)
 by_same a b part name file f p x fresh e (inr s) = absurd (none_some p (sym (x.none f s fresh) ∙ e))
 
-pub new_part : (a b : View) (part : ℕ) (name : List ℕ) (file f p : ℕ) → IsNew a b part name file → a.part f ≡ None → b.part f ≡ Some p
+pub new_part : (a b : View) (part : ℕ) (name : List ℕ) (file f p : ℕ) → IsNewFile a b part name file → a.part f ≡ None → b.part f ≡ Some p
     → (p ≡ part) × (f ≡ file)
 new_part a b part name file f p x fresh e = by_same a b part name file f p x fresh e (same_or_not f file)
 

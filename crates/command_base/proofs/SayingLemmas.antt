@@ -1,6 +1,6 @@
 -- What holds of the files of a command before something is said holds of them after it.
 use Rattle.std.proofs.Common.{◌≡◌, ◌≤◌, ◌++◌, ◌∙◌, ◌⊎◌, ℕ, List, Some, ap, sym, inl, inr}
-use Rattle.play_base.specs.View.{View, Any, Keeps, NoneAppears, Rose}
+use Rattle.play_base.specs.View.{View, Everything, Keeps, NoneAppears, Rose}
 use Rattle.play_base.proofs.ViewLaws.{keeps_trans, rose_before, rose_later}
 use Rattle.command_base.specs.Faults.{CannotRead, IsQuiet, Untouched}
 use Rattle.command_base.specs.Input.{EndsAtConfig, OnlyReads, TakesFew}
@@ -40,7 +40,7 @@ few_after u v w config o x = λ t f fresh e text at.
     (y.0, o.keeps.left f 1 there tt ∙ y.1, y.2)
 
 -- a result was said behind the reading of a configuration
-pub only_after : (u v w : View) (config : List ℕ) → OnlyReads u v config → NoneAppears v w → Keeps Any Any v w → OnlyReads u w config
+pub only_after : (u v w : View) (config : List ℕ) → OnlyReads u v config → NoneAppears v w → Keeps Everything Everything v w → OnlyReads u w config
 only_after u v w config h none k = record {
   part = λ f p fresh e. h.part f p fresh (there_then v w f p none k.part e (there_or_not (v.part f)));
   name = λ t f p fresh e.

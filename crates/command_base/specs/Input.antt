@@ -4,7 +4,7 @@ use Rattle.conf_lines.specs.declared.fault.ConfPlace.{ConfPlace}
 use Rattle.conf_lines.specs.Texts.{statements_of}
 use Rattle.conf_tree.specs.declared.interface.Interface.{Interface}
 use Rattle.conf_tree.specs.Reading.{reading}
-use Rattle.play_base.specs.View.{View, Any, Keeps}
+use Rattle.play_base.specs.View.{View, Everything, Keeps}
 use Rattle.command_base.specs.Configuration.{Refused, Says, TooLong, most_bytes}
 use Rattle.command_base.specs.Faults.{CannotRead}
 use Rattle.command_base.specs.declared.fault.ConfigFault.{ConfigFault}
@@ -72,7 +72,7 @@ TakesFew old new config = IsTrue old.tells → (f : ℕ) → old.part f ≡ None
 
 -- no more was done than to read the configuration: no name changes its bytes
 pub record EndsAtConfig (old new : View) (config : List ℕ) : Type 0 where
-  pub keeps : Keeps Any Any old new
+  pub keeps : Keeps Everything Everything old new
   pub only : OnlyReads old new config
 
 -- why the configuration cannot be used by one who asks for the interface

@@ -1,6 +1,6 @@
 -- The names of the words, as they stand and as they were read.
 use Rattle.std.specs.Prelude.{ℕ, List}
-use Rattle.play_words.specs.Words.{Words, config_name, interface_name, arrivals_name, departures_name, fates_name, stats_name}
+use Rattle.play_words.specs.Words.{Arguments, config_name, interface_name, arrivals_name, departures_name, fates_name, stats_name}
 use Rattle.play_words.specs.declared.words.PlayWords.{PlayWords}
 
 pub record Names : Type 0 where
@@ -11,7 +11,7 @@ pub record Names : Type 0 where
   pub fates : List ℕ
   pub stats : List ℕ
 
-abbrev pub names_of : Words → Names
+abbrev pub names_of : Arguments → Names
 names_of words = record {
   config = config_name words;
   interface = interface_name words;

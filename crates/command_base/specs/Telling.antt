@@ -1,6 +1,6 @@
 -- What is printed of what came of a command.
 use Rattle.std.specs.Prelude.{◌≡◌, ◌⊎◌, List, ℕ, ◌++◌, IsTrue, Ok, Err}
-use Rattle.play_base.specs.View.{View, Any, Keeps, NoneAppears}
+use Rattle.play_base.specs.View.{View, Everything, Keeps, NoneAppears}
 use Rattle.command_base.specs.Message.{message_of, out_of_memory}
 use Rattle.command_base.specs.Outcome.{Outcome, done_status, failure_status, status_of}
 use Rattle.command_base.specs.declared.failure.Failure.{Failure}
@@ -11,7 +11,7 @@ use Rattle.command_base.specs.Parts as parts
 
 -- nothing changes but what was printed, and counts
 pub record OnlySays (old new : View) : Type 0 where
-  pub keeps : Keeps Any Any old new
+  pub keeps : Keeps Everything Everything old new
   pub none : NoneAppears old new
 
 -- exactly the text was printed, or nothing

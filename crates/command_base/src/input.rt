@@ -3,7 +3,7 @@ ghost use Rattle.std.specs.Prelude.{◌≡◌, ◌≢◌, ◌≤◌, ◌<◌, �
 ghost use Rattle.conf_lines.specs.Texts.{statements_of};
 ghost use Rattle.conf_tree.specs.Answers.{Fails};
 ghost use Rattle.conf_tree.specs.Reading.{reading};
-ghost use Rattle.play_base.specs.View.{Any, Keeps, NoneAppears, ReadFault, SameCounts, View};
+ghost use Rattle.play_base.specs.View.{Everything, Keeps, NoneAppears, ReadFault, SameCounts, View};
 ghost use Rattle.command_base.specs.Configuration.{absent, most_bytes};
 ghost use Rattle.command_base.specs.Input.{BytesCauses, HadLeft, HadMore, InputCauses, IsOfFile, IsRead, OnlyReads, TookFew};
 
@@ -40,7 +40,7 @@ fn read_whole<F: Files>(alloc: Global, files: &mut F, file: u32) -> Result<Vec<u
     ensures failed { IsErrOf result ConfigFault.Read → ReadFault (F.view files.old) (F.view files.new) file }
     ensures others { IfErr result IsOfFile }
     ensures few { TookFew (F.view files.old) (F.view files.new) file }
-    ensures keeps { Keeps Any (λ f. f ≢ file) (F.view files.old) (F.view files.new) }
+    ensures keeps { Keeps Everything (λ f. f ≢ file) (F.view files.old) (F.view files.new) }
     ensures none { NoneAppears (F.view files.old) (F.view files.new) }
     ensures said { (F.view files.new).said ≡ (F.view files.old).said }
     ensures no_fault { OnOk result (SameCounts (F.view files.old) (F.view files.new)) }
@@ -71,7 +71,7 @@ fn read_input<F: Files>(alloc: Global, files: &mut F, name: &str) -> Result<Vec<
     ensures short { IfOk result (λ all. length all.items ≤ most_bytes) }
     ensures why { IfErr result (BytesCauses (F.view files.old) (F.view files.new) name.now) }
     ensures only { OnlyReads (F.view files.old) (F.view files.new) name.now }
-    ensures keeps { Keeps Any Any (F.view files.old) (F.view files.new) }
+    ensures keeps { Keeps Everything Everything (F.view files.old) (F.view files.new) }
     ensures said { (F.view files.new).said ≡ (F.view files.old).said }
     ensures no_fault { OnOk result (SameCounts (F.view files.old) (F.view files.new)) }
 {
@@ -99,7 +99,7 @@ pub fn read_conf<F: Files>(alloc: Global, files: &mut F, config: &str) -> Result
     ensures read { IfOk result (λ conf. IsRead (F.view files.old) config.now (Ok conf)) }
     ensures why { IfErr result (InputCauses (F.view files.old) (F.view files.new) config.now) }
     ensures only { OnlyReads (F.view files.old) (F.view files.new) config.now }
-    ensures keeps { Keeps Any Any (F.view files.old) (F.view files.new) }
+    ensures keeps { Keeps Everything Everything (F.view files.old) (F.view files.new) }
     ensures said { (F.view files.new).said ≡ (F.view files.old).said }
     ensures no_fault { OnOk result (SameCounts (F.view files.old) (F.view files.new)) }
 {

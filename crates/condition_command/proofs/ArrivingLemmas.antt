@@ -7,18 +7,18 @@ use Rattle.arrivals_front.specs.declared.given.GivenFault.TheVariants as given
 use Rattle.pcapng_files.specs.Converted.{IsCause}
 use Rattle.pcapng_files.specs.declared.fault.NgFault.{NgFault}
 use Rattle.pcapng_files.specs.declared.fault.NgFault.TheVariants as ng
-use Rattle.play_base.specs.View.{View, Any, IsNew, Keeps, NoneAppears, Opened, Unchanged}
+use Rattle.play_base.specs.View.{View, Everything, IsNewFile, Keeps, NoneAppears, Opened, Unchanged}
 use Rattle.play_base.proofs.ViewLaws.{opened_then, rose_later}
 use Rattle.command_base.proofs.ConfLemmas.{some_bytes}
 use Rattle.command_base.proofs.PartLemmas.{new_part, none_some, same_part, there_or_not}
 use Rattle.early_stops.specs.Arriving.{IsNoPcapng, OnlyOpens, given_failure}
 use Rattle.condition_command.specs.Arriving.{ArrivalCauses}
 
-pub arrived_keeps : (a b c : View) (name : List ℕ) (file : ℕ) → Opened a b 2 name file → Keeps Any (λ f. f ≢ file) b c → Keeps Any Any a c
-arrived_keeps a b c name file x k = opened_then Any a b c 2 name file x k
+pub arrived_keeps : (a b c : View) (name : List ℕ) (file : ℕ) → Opened a b 2 name file → Keeps Everything (λ f. f ≢ file) b c → Keeps Everything Everything a c
+arrived_keeps a b c name file x k = opened_then Everything a b c 2 name file x k
 
-pub arrived_new : (a b c : View) (name : List ℕ) (file : ℕ) → Opened a b 2 name file → Keeps Any (λ f. f ≢ file) b c → NoneAppears b c → c.said ≡ b.said
-    → IsNew a c 2 name file
+pub arrived_new : (a b c : View) (name : List ℕ) (file : ℕ) → Opened a b 2 name file → Keeps Everything (λ f. f ≢ file) b c → NoneAppears b c → c.said ≡ b.said
+    → IsNewFile a c 2 name file
 arrived_new a b c name file x k none said = record {
   fresh = x.is_new.fresh;
   part = k.part file 2 x.is_new.part;
@@ -27,13 +27,13 @@ arrived_new a b c name file x k none said = record {
   said = said ∙ x.is_new.said;
 }
 
-opened_alone : (a b c : View) (name : List ℕ) (file f p : ℕ) → Opened a b 2 name file → Keeps Any (λ f. f ≢ file) b c → NoneAppears b c → a.part f ≡ None
+opened_alone : (a b c : View) (name : List ℕ) (file f p : ℕ) → Opened a b 2 name file → Keeps Everything (λ f. f ≢ file) b c → NoneAppears b c → a.part f ≡ None
     → c.part f ≡ Some p → (b.part f ≡ None) ⊎ ((q : ℕ) × (b.part f ≡ Some q)) → p ≡ 2
 opened_alone a b c name file f p x k none fresh at (inl was) = absurd (none_some p (sym (none f was) ∙ at))
 opened_alone a b c name file f p x k none fresh at (inr old) =
     sym (same_part old.0 p (sym (k.part f old.0 old.1) ∙ at)) ∙ (new_part a b 2 name file f old.0 x.is_new fresh old.1).0
 
-pub arrived_opens : (a b c : View) (name : List ℕ) (file : ℕ) → Opened a b 2 name file → Keeps Any (λ f. f ≢ file) b c → NoneAppears b c → OnlyOpens a c 2
+pub arrived_opens : (a b c : View) (name : List ℕ) (file : ℕ) → Opened a b 2 name file → Keeps Everything (λ f. f ≢ file) b c → NoneAppears b c → OnlyOpens a c 2
 arrived_opens a b c name file x k none f p fresh at = opened_alone a b c name file f p x k none fresh at (there_or_not (b.part f))
 
 pub unopened : (a b : View) → Unchanged a b → OnlyOpens a b 2

@@ -4,7 +4,7 @@ use Rattle.std.specs.Prelude.{◌≢◌, ◌<◌, IsTrue}
 use Rattle.arrivals_front.specs.Given.{is_pcapng}
 use Rattle.conf_tree.specs.declared.interface.Interface.{Interface}
 use Rattle.interface_marks.specs.Conditioners.{marked_in}
-use Rattle.play_base.specs.View.{View, Any, Created, Keeps, NoneAppears, NotNamed, OtherThan, Unchanged}
+use Rattle.play_base.specs.View.{View, Everything, Created, Keeps, NoneAppears, NotNamed, OtherThan, Unchanged}
 use Rattle.play_base.proofs.ViewLaws.{keeps_fewer, keeps_trans, later_trans}
 use Rattle.command_base.specs.Faults.{Untouched}
 use Rattle.command_base.specs.Input.{EndsAtConfig, TakesFew}
@@ -17,7 +17,7 @@ use Rattle.condition_command.specs.Marking.{KeepsOthers}
 
 -- nothing was created so far: the configuration was opened, and perhaps the arrivals
 pub record IsReading (u v : View) (n : MarkNames) : Type 0 where
-  pub keeps : Keeps Any Any u v
+  pub keeps : Keeps Everything Everything u v
   pub parts : (f p : ℕ) → u.part f ≡ None → v.part f ≡ Some p → (p ≡ 1) ⊎ (p ≡ 2)
   pub few : TakesFew u v n.config
   pub named : IsTrue u.tells → (f : ℕ) → u.part f ≡ None → v.part f ≡ Some 1 → v.name f ≡ n.config
@@ -31,7 +31,7 @@ reading_conf u v n x = record {
 }
 
 -- of a file that came to be: it did now, or before
-new_or_old : (v w : View) (part f p : ℕ) → OnlyOpens v w part → Keeps Any Any v w → w.part f ≡ Some p
+new_or_old : (v w : View) (part f p : ℕ) → OnlyOpens v w part → Keeps Everything Everything v w → w.part f ≡ Some p
     → (v.part f ≡ None) ⊎ ((q : ℕ) × (v.part f ≡ Some q)) → (p ≡ part) ⊎ (v.part f ≡ Some p)
 new_or_old v w part f p o k e (inl none) = inl (o f p none e)
 new_or_old v w part f p o k e (inr old) =
@@ -48,7 +48,7 @@ config_by v f (inl e) = absurd (omega (arith, e))
 config_by v f (inr e) = e
 
 -- the arrivals are opened
-pub reading_more : (u v w : View) (n : MarkNames) → IsReading u v n → Keeps Any Any v w → OnlyOpens v w 2 → IsReading u w n
+pub reading_more : (u v w : View) (n : MarkNames) → IsReading u v n → Keeps Everything Everything v w → OnlyOpens v w 2 → IsReading u w n
 reading_more u v w n x k o = record {
   keeps = keeps_trans _ _ u v w x.keeps k;
   parts = λ f p fresh e. parts_by u v n f p x fresh (new_or_old v w 2 f p o k e (there_or_not (v.part f)));
@@ -85,7 +85,7 @@ leaves_reading u v n x =
       uncreated = λ h. x.keeps.bytes n.marked tt;
       order = λ h. none;
       parts = λ f p fresh e. part_or p (x.parts f p fresh e);
-      keeps = keeps_fewer Any (OtherThan u n.marked) Any (NotNamed u n.marked) u v (λ m h. tt) (λ f h. tt) x.keeps;
+      keeps = keeps_fewer Everything (OtherThan u n.marked) Everything (NotNamed u n.marked) u v (λ m h. tt) (λ f h. tt) x.keeps;
       few = x.few;
     }
 
@@ -241,6 +241,6 @@ leaves_said u v w n x o = record {
   uncreated = λ h. o.keeps.bytes n.marked tt ∙ x.uncreated (untouched_before u v w 6 o h);
   order = λ h f fresh e. x.order (untouched_before u v w 2 o h) f fresh (there_before v w f 6 o e);
   parts = λ f p fresh e. x.parts f p fresh (there_before v w f p o e);
-  keeps = keeps_trans _ _ u v w x.keeps (keeps_fewer Any (OtherThan u n.marked) Any (NotNamed u n.marked) v w (λ m h. tt) (λ f h. tt) o.keeps);
+  keeps = keeps_trans _ _ u v w x.keeps (keeps_fewer Everything (OtherThan u n.marked) Everything (NotNamed u n.marked) v w (λ m h. tt) (λ f h. tt) o.keeps);
   few = few_after u v w n.config o x.few;
 }

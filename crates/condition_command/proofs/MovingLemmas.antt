@@ -8,7 +8,7 @@ use Rattle.std.specs.declared.result.Result.{Result}
 use Rattle.frame_classes.specs.Frames.{Classes, placed_by}
 use Rattle.marked_files.specs.Courses.{made}
 use Rattle.marked_files.specs.Markings.{Marking, given}
-use Rattle.marked_files.specs.Standing.{AreWhole, HasTakenOn, IsBehind, Stands, TellsLeft, Waits}
+use Rattle.marked_files.specs.Standing.{AreWhole, HasTakenOn, IsBehind, IsAtRecordEnd, TellsLeft, Waits}
 use Rattle.marked_files.specs.Taking.{holds}
 use Rattle.marked_files.specs.declared.behind.Behind.{Behind}
 use Rattle.marked_files.proofs.BehindLemmas.{cut_whole}
@@ -16,7 +16,7 @@ use Rattle.play_base.specs.declared.trouble.Trouble.{Trouble}
 use Rattle.play_base.specs.declared.trouble.Trouble.TheVariants as trouble
 use Rattle.pcapng_files.specs.Fronts.{front_view, with_front}
 use Rattle.pcapng_files.proofs.FrontLaws.{left_self}
-use Rattle.play_base.specs.View.{View, Any, NoneAppears, NotNamed, OtherThan, Took, Wrote, WroteFront}
+use Rattle.play_base.specs.View.{View, Everything, NoneAppears, NotNamed, OtherThan, Took, Wrote, WroteFront}
 use Rattle.play_base.proofs.ViewLaws.{keeps_fewer, keeps_refl, keeps_trans, later_trans, part_of_there, still_there, wrote_nothing}
 use Rattle.traffic_marks.specs.Marked.{Conditioning, marked}
 use Rattle.condition_command.specs.Marking.{CameOf, HasMarked, KeepsOthers, Marks, MarksLeft, read_trouble, write_trouble}
@@ -41,7 +41,7 @@ moved_took u v w from to taken written more x y = record {
       (two.0, one.1 ∙ ap (λ (l : List ℕ). taken ++ l) two.1 ∙ sym (append_assoc taken more two.0), two.2);
   grown = λ t before at. y.keeps.bytes (u.name to) tt ∙ x.grown t before at;
   keeps = keeps_trans (OtherThan u (u.name to)) (λ f. (f ≢ from) × NotNamed u (u.name to) f) u v w x.keeps
-      (keeps_fewer Any (OtherThan u (u.name to)) (λ f. f ≢ from) (λ f. (f ≢ from) × NotNamed u (u.name to) f) v w (λ n h. tt) (λ f h. h.0) y.keeps);
+      (keeps_fewer Everything (OtherThan u (u.name to)) (λ f. f ≢ from) (λ f. (f ≢ from) × NotNamed u (u.name to) f) v w (λ n h. tt) (λ f h. h.0) y.keeps);
   none = λ f h. y.none f (x.none f h);
   said = y.said ∙ x.said;
 }
@@ -90,7 +90,7 @@ on_begun v from to m = record {
   taken = [];
   written = [];
   moved = moved_nothing v from to;
-  stands = λ c first s. subst (λ (l : List ℕ). Stands placed_by c l [] m) (sym (append-nil first)) s;
+  stands = λ c first s. subst (λ (l : List ℕ). IsAtRecordEnd placed_by c l [] m) (sym (append-nil first)) s;
 }
 
 pub on_taken : (u v w : View) (from to : ℕ) (m n o : Marking Classes) → IsOn u v from to m n → HasTakenOn placed_by v w from n o → IsOn u w from to m o
@@ -99,11 +99,11 @@ on_taken u v w from to m n o x y = record {
   written = x.written;
   moved = moved_took u v w from to x.taken x.written y.more x.moved y.took;
   stands = λ c first s.
-      subst (λ (l : List ℕ). Stands placed_by c l x.written o) (append_assoc first x.taken y.more) (y.stands c (first ++ x.taken) x.written (x.stands c first s));
+      subst (λ (l : List ℕ). IsAtRecordEnd placed_by c l x.written o) (append_assoc first x.taken y.more) (y.stands c (first ++ x.taken) x.written (x.stands c first s));
 }
 
 pub on_wrote : (u v w : View) (from to : ℕ) (m n o : Marking Classes) → AreApart u from to → IsOn u v from to m n → Wrote v w to n.held.ready
-    → ((c : Conditioning) (taken bytes : List ℕ) → Stands placed_by c taken bytes n → Stands placed_by c taken (bytes ++ n.held.ready) o)
+    → ((c : Conditioning) (taken bytes : List ℕ) → IsAtRecordEnd placed_by c taken bytes n → IsAtRecordEnd placed_by c taken (bytes ++ n.held.ready) o)
     → IsOn u w from to m o
 on_wrote u v w from to m n o apart x y given = record {
   taken = x.taken;
@@ -128,7 +128,7 @@ stays_wrote u v w from to m n bytes apart x y =
     record { keeps = h.keeps; none = h.none; said = h.said }
 
 -- what a marker stands for, and what its file has left, is a front of what becomes of the capture
-pub stands_front : (c : Conditioning) (taken bytes left : List ℕ) (m : Marking Classes) (k : ℕ) → Stands placed_by c taken bytes m
+pub stands_front : (c : Conditioning) (taken bytes left : List ℕ) (m : Marking Classes) (k : ℕ) → IsAtRecordEnd placed_by c taken bytes m
     → (tail : List ℕ) × (marked c (taken ++ left) ≡ (bytes ++ take k m.held.ready) ++ tail)
 stands_front c taken bytes left m k s =
     let rest = made m.stage (placed_by m.classes) m.course (m.held.pending ++ left) in
@@ -142,7 +142,7 @@ stands_front c taken bytes left m k s =
 -- what came of a marking of which a front of what is ready was written, or all or nothing
 pub marks_by : (u v w : View) (from to : ℕ) (m n : Marking Classes) (k : ℕ) (r : Result ⊤ Unmarked) → AreApart u from to → IsOn u v from to m n
     → Wrote v w to (take k n.held.ready) → holds n ≤ 262160
-    → ((c : Conditioning) (taken bytes left : List ℕ) → Stands placed_by c taken bytes n → v.left from ≡ Some left
+    → ((c : Conditioning) (taken bytes left : List ℕ) → IsAtRecordEnd placed_by c taken bytes n → v.left from ≡ Some left
     → CameOf c (taken ++ left) taken (bytes ++ take k n.held.ready) r)
     → MarksLeft u w from to m r
 marks_by u v w from to m n k r apart x y room came t c first s left at =
@@ -168,7 +168,7 @@ marks_by u v w from to m n k r apart x y room came t c first s left at =
     }
 
 -- a read failed, or no memory was left for it: nothing more is written
-came_cut : (c : Conditioning) (taken bytes left : List ℕ) (n : Marking Classes) (t : Trouble) → Stands placed_by c taken bytes n → Waits n → length n.held.ready ≡ 0
+came_cut : (c : Conditioning) (taken bytes left : List ℕ) (n : Marking Classes) (t : Trouble) → IsAtRecordEnd placed_by c taken bytes n → Waits n → length n.held.ready ≡ 0
     → CameOf c (taken ++ left) taken (bytes ++ []) (Err (read_trouble t))
 came_cut c taken bytes left n trouble.Failed s w none =
     let x = cut_whole placed_by c taken bytes n s w none in

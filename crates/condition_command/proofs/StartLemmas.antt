@@ -6,7 +6,7 @@ use Rattle.arrivals_front.specs.declared.given.Given.{Given}
 use Rattle.conf_tree.specs.declared.interface.Interface.{Interface}
 use Rattle.pcapng_files.specs.declared.fault.NgFault.{NgFault}
 use Rattle.pcapng_files.specs.declared.fault.NgFault.TheVariants as ng
-use Rattle.play_base.specs.View.{View, Any, Keeps, Rose, Unchanged}
+use Rattle.play_base.specs.View.{View, Everything, Keeps, Rose, Unchanged}
 use Rattle.play_base.proofs.ViewLaws.{rose_later}
 use Rattle.command_base.specs.Configuration.{Accepts}
 use Rattle.command_base.specs.Faults.{CannotRead, Untouched}
@@ -46,11 +46,11 @@ config_ends u v n f e x =
     ends_reading u v n (config_failure f) r (config_fails u v n f (reading_untouched u v n r) x)
 
 -- the arrivals cannot be had
-cannot_since : (u v w : View) (part : ℕ) (name : List ℕ) → Keeps Any Any u v → CannotRead v w part name → CannotRead u w part name
+cannot_since : (u v w : View) (part : ℕ) (name : List ℕ) → Keeps Everything Everything u v → CannotRead v w part name → CannotRead u w part name
 cannot_since u v w part name k (inl r) = inl (rose_later _ _ _ (k.later.read part) r)
 cannot_since u v w part name k (inr a) = inr (sym k.tells ∙ a.0, sym (k.bytes name tt) ∙ a.1)
 
-broken_since : (u v : View) (n : MarkNames) (found : Interface) (f : NgFault) → Keeps Any Any u v → Accepts u n.config n.interface found
+broken_since : (u v : View) (n : MarkNames) (found : Interface) (f : NgFault) → Keeps Everything Everything u v → Accepts u n.config n.interface found
     → (IsTrue v.tells → IsNoPcapng v n.arrivals f) → IsTrue u.tells → AreBroken u n f
 broken_since u v n found f k a x t =
     let y = x (k.tells ∙ t) in
@@ -59,7 +59,7 @@ broken_since u v n found f k a x t =
       arrivals = record { given = y.given; at = sym (k.bytes n.arrivals tt) ∙ y.at; begins = y.begins; cause = y.cause };
     }
 
-arrivals_fail : (u v w : View) (n : MarkNames) (found : Interface) (f : Failure) → Keeps Any Any u v → Accepts u n.config n.interface found
+arrivals_fail : (u v w : View) (n : MarkNames) (found : Interface) (f : Failure) → Keeps Everything Everything u v → Accepts u n.config n.interface found
     → Untouched u w 6 → ArrivalCauses v w n.arrivals f → ConditionFails u w n f
 arrivals_fail u v w n found (failure.Words fault) k a none x = absurd x
 arrivals_fail u v w n found (failure.Configuration place) k a none x = absurd x
@@ -80,7 +80,7 @@ arrivals_fail u v w n found (failure.OfLink link fault) k a none x = absurd x
 arrivals_fail u v w n found failure.NoMemory k a none x = tt
 
 pub arrivals_end : (u v w : View) (n : MarkNames) (found : Interface) (f : Failure) → EndsAtConfig u v n.config → Accepts u n.config n.interface found
-    → Keeps Any Any v w → OnlyOpens v w 2 → ArrivalCauses v w n.arrivals f → ConditionEnds u w n (Err f)
+    → Keeps Everything Everything v w → OnlyOpens v w 2 → ArrivalCauses v w n.arrivals f → ConditionEnds u w n (Err f)
 arrivals_end u v w n found f e a k o x =
     let r = reading_more u v w n (reading_conf u v n e) k o in
     ends_reading u w n f r (arrivals_fail u v w n found f e.keeps a (reading_untouched u w n r) x)

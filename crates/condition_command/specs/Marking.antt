@@ -4,7 +4,7 @@ use Rattle.std.specs.declared.result.Result.{Result}
 use Rattle.capture_model.specs.Capture.{IsLast, Step}
 use Rattle.frame_classes.specs.Frames.{Classes, placed_by}
 use Rattle.marked_files.specs.Markings.{Marking}
-use Rattle.marked_files.specs.Standing.{AreWhole, IsBehind, Stands}
+use Rattle.marked_files.specs.Standing.{AreWhole, IsBehind, IsAtRecordEnd}
 use Rattle.marked_files.specs.declared.behind.Behind.TheVariants as behind
 use Rattle.pcapng_files.specs.Fronts.{with_front}
 use Rattle.play_base.specs.declared.trouble.Trouble.{Trouble}
@@ -47,12 +47,12 @@ pub record HasMarked (old new : View) (from to : ℕ) (rest : Bool) (c : Conditi
 
 -- so of the bytes that a marker has taken, and of those that the file has left
 abbrev pub MarksLeft : View → View → (from to : ℕ) → Marking Classes → Result ⊤ Unmarked → Type 0
-MarksLeft old new from to m r = IsTrue old.tells → (c : Conditioning) (first : List ℕ) → Stands placed_by c first [] m
+MarksLeft old new from to m r = IsTrue old.tells → (c : Conditioning) (first : List ℕ) → IsAtRecordEnd placed_by c first [] m
     → (left : List ℕ) → old.left from ≡ Some left → HasMarked old new from to true c (first ++ left) r
 
 -- so of a front and, where that follows, of what the file has left
 abbrev pub Marks : View → View → (from to : ℕ) → (rest : Bool) → (front : List ℕ) → Marking Classes → Result ⊤ Unmarked → Type 0
-Marks old new from to rest front m r = IsTrue old.tells → (c : Conditioning) → Stands placed_by c (if rest then front else []) [] m
+Marks old new from to rest front m r = IsTrue old.tells → (c : Conditioning) → IsAtRecordEnd placed_by c (if rest then front else []) [] m
     → (capture : List ℕ) → with_front true rest front (old.left from) ≡ Some capture → HasMarked old new from to rest c capture r
 
 -- what ends a command

@@ -2,7 +2,7 @@
 use Rattle.std.specs.Prelude.{◌≡◌, ◌≢◌, ◌++◌, ℕ, List, [], Some, IsSome, IsTrue}
 use Rattle.frame_classes.specs.Frames.{Classes, placed_by}
 use Rattle.marked_files.specs.Markings.{Marking}
-use Rattle.marked_files.specs.Standing.{Stands}
+use Rattle.marked_files.specs.Standing.{IsAtRecordEnd}
 use Rattle.play_base.specs.View.{View, NoneAppears}
 use Rattle.traffic_marks.specs.Marked.{Conditioning}
 use Rattle.condition_command.specs.Marking.{KeepsOthers}
@@ -26,4 +26,4 @@ pub record IsOn (old new : View) (from to : ℕ) (m n : Marking Classes) : Type 
   pub taken : List ℕ
   pub written : List ℕ
   pub moved : HasMoved old new from to taken written
-  pub stands : (c : Conditioning) (first : List ℕ) → Stands placed_by c first [] m → Stands placed_by c (first ++ taken) written n
+  pub stands : (c : Conditioning) (first : List ℕ) → IsAtRecordEnd placed_by c first [] m → IsAtRecordEnd placed_by c (first ++ taken) written n

@@ -3,7 +3,7 @@ use Rattle.std.specs.Prelude.{◌≡◌, ℕ, List, Some, IsSome, IsTrue}
 use Rattle.arrivals_front.specs.Given.{Follows}
 use Rattle.arrivals_front.specs.declared.given.Given.{Given}
 use Rattle.conf_tree.specs.declared.interface.Interface.{Interface}
-use Rattle.play_base.specs.View.{View, Any, IsNew, Keeps}
+use Rattle.play_base.specs.View.{View, Everything, IsNewFile, Keeps}
 use Rattle.command_base.specs.Configuration.{Accepts}
 use Rattle.command_base.specs.Input.{EndsAtConfig}
 use Rattle.early_stops.specs.Arriving.{OnlyOpens}
@@ -11,10 +11,10 @@ use Rattle.condition_command.specs.Conditioning.{MarkNames}
 
 -- the arrivals were opened
 pub record HasOpened (v w : View) (n : MarkNames) (from : ℕ) (g : Given) : Type 0 where
-  pub is_new : IsNew v w 2 n.arrivals from
+  pub is_new : IsNewFile v w 2 n.arrivals from
   pub there : IsTrue v.tells → IsSome (v.bytes n.arrivals)
   pub follows : IsTrue v.tells → (given : List ℕ) → v.bytes n.arrivals ≡ Some given → Follows w from given g
-  pub keeps : Keeps Any Any v w
+  pub keeps : Keeps Everything Everything v w
   pub opens : OnlyOpens v w 2
 
 -- the configuration was read, with the interface asked for, and then the arrivals were opened

@@ -129,7 +129,7 @@ fn mark_front<F: Files>(
 }
 
 /// Writes what the marker makes of the arrivals, of which `given` tells how they begin: the marker has taken the front where the file
-/// follows it, else nothing. Takes no memory but what the files take.
+/// follows it, else nothing. Allocates nothing but what the files do.
 #[tactic(auto, using(play_base::proofs::ViewLaws::same_trans, play_base::proofs::ViewLaws::same_refl))]
 pub(crate) fn write_marked<F: Files>(
     files: &mut F,

@@ -8,7 +8,7 @@ use Rattle.altq_model.specs.Arrivals.{Captured, arrivals_from, arrivals_of}
 use Rattle.capture_model.specs.Capture.{Record}
 use Rattle.traffic_meter.specs.declared.rule.Colour.{Colour}
 use Rattle.traffic_meter.specs.declared.rule.MeterRule.{MeterRule}
-use Rattle.traffic_meter.specs.History.{IsInOrder, Metered, colour_after, colours}
+use Rattle.traffic_meter.specs.History.{ArrivalsAreInOrder, Metered, colour_after, colours}
 use Rattle.traffic_meter.proofs.Conforming as conforming
 use Rattle.traffic_marks.specs.Laws.{recaptured}
 use Rattle.traffic_marks.specs.Marked.{Conditioner, Conditioning, coloured_frame, frames, history, marked_frame, marked_frames, metered, rule_of}
@@ -90,5 +90,5 @@ is_metered c came class rule e = record {
       (sym (as_they_come class rule (arrivals_of c.place came) []));
 }
   where
-    behind : (newer h : List Metered) → asked c class came ≡ newer ++ h → IsInOrder h
-    behind newer h is = stretch_in_order newer h (subst (λ (l : List Metered). IsInOrder l) is (in_order c class came))
+    behind : (newer h : List Metered) → asked c class came ≡ newer ++ h → ArrivalsAreInOrder h
+    behind newer h is = stretch_in_order newer h (subst (λ (l : List Metered). ArrivalsAreInOrder l) is (in_order c class came))

@@ -6,7 +6,7 @@ use Rattle.capture_model.specs.Capture.{Record}
 use Rattle.traffic_meter.specs.declared.rule.Colour.{Colour}
 use Rattle.traffic_meter.specs.declared.rule.MeterRule.{MeterRule}
 use Rattle.traffic_meter.specs.Conforming.{GreenConforms, PassedConforms}
-use Rattle.traffic_meter.specs.History.{IsInOrder, Metered, colours}
+use Rattle.traffic_meter.specs.History.{ArrivalsAreInOrder, Metered, colours}
 use Rattle.traffic_marks.specs.Marked.{Conditioning, coloured_frame, history}
 
 -- the packets of records that the meter of a class is asked for, the newest first
@@ -30,7 +30,7 @@ coloured_frames rule (colour ∷ colours) (frame ∷ frames) = coloured_frame ru
 -- each stretch of them the green ones conform to the committed rate and burst, and those that passed to theirs. The frames of the class
 -- carry the code points of these colours.
 pub record IsMetered (c : Conditioning) (came made : List Record) (class : ℕ) (rule : MeterRule) : Type 0 where
-  pub in_order : IsInOrder (asked c class came)
+  pub in_order : ArrivalsAreInOrder (asked c class came)
   pub green : (newer s older : List Metered) → asked c class came ≡ newer ++ (s ++ older) → GreenConforms rule s older
   pub passed : (newer s older : List Metered) → asked c class came ≡ newer ++ (s ++ older) → PassedConforms rule s older
   pub carried : frames_of c.place class came made

@@ -4,7 +4,7 @@ use Rattle.capture_model.specs.Capture.{Record}
 use Rattle.traffic_meter.specs.declared.rule.MeterRule.{MeterRule}
 use Rattle.traffic_meter.specs.declared.rule.MeterRule.TheVariants.{Single}
 use Rattle.traffic_marks.specs.Marked.{Conditioning}
-use Rattle.marks_rows.specs.Rows.{by_version, packet, srtcm, v4, v6}
+use Rattle.traffic_marks.specs.Rows.{by_version, packet, srtcm, v4, v6}
 
 abbrev pub one_meter : Conditioning
 one_meter = record { place = by_version; conditioners = srtcm 1 1000 0 1 ∷ [] }

@@ -3,7 +3,7 @@ ghost use Rattle.std.specs.Prelude.{◌≡◌, ◌∷◌, []};
 ghost use Rattle.traffic_meter.specs.Conforming.{allowed, coloured, is_green};
 ghost use Rattle.traffic_meter.specs.History.{colours};
 ghost use Rattle.traffic_meter.specs.Rows.{G, R, at};
-ghost use Rattle.marks_rows.specs.Rows.{by_version, packet, v4, v6};
+ghost use Rattle.traffic_marks.specs.Rows.{by_version, packet, v4, v6};
 ghost use Rattle.conditioned_laws.specs.Metered.{asked, coloured_frames, frames_of};
 ghost use Rattle.conditioned_laws.specs.Rows.{four_and_one, meter, one_meter};
 

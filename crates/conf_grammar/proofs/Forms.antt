@@ -21,7 +21,7 @@ interface_keyed (cbq_wrr o) = keyed key.CbqWrr refl o
 
 pub interface_choice : Choice form.Interface is_discipline InterfaceOption
 interface_choice = record {
-  settles = refl & refl & refl & refl & refl & refl & done;
+  completes = refl & refl & refl & refl & refl & refl & done;
   keyed = interface_keyed;
   rows =
       (λ ws xs o. bandwidth o) & (λ ws xs o. tbrsize o) & (λ ws xs o. hfsc o) & (λ ws xs o. cbq o) & (λ ws xs o. efficient o) & (λ ws xs o. cbq_wrr o)
@@ -57,7 +57,7 @@ hfsc_keyed (hfsc_shared o) = also_keyed (class_keyed o) (refl & refl & refl & re
 
 pub hfsc_choice : Choice form.ClassHfsc is_share HfscOption
 hfsc_choice = record {
-  settles = refl & refl & refl & refl & refl & refl & refl & refl & refl & refl & refl & refl & refl & done;
+  completes = refl & refl & refl & refl & refl & refl & refl & refl & refl & refl & refl & refl & refl & done;
   keyed = hfsc_keyed;
   rows =
       (λ ws xs o. sc o) & (λ ws xs o. rt o) & (λ ws xs o. ls o) & (λ ws xs o. ul o) & (λ ws xs o. pshare o) & (λ ws xs o. grate o)
@@ -78,7 +78,7 @@ cbq_keyed (cbq_shared o) = also_keyed (class_keyed o) (refl & refl & refl & refl
 
 pub cbq_choice : Choice form.ClassCbq is_rate CbqOption
 cbq_choice = record {
-  settles = refl & refl & refl & refl & refl & refl & refl & refl & refl & refl & refl & refl & refl & refl & done;
+  completes = refl & refl & refl & refl & refl & refl & refl & refl & refl & refl & refl & refl & refl & refl & done;
   keyed = cbq_keyed;
   rows =
       (λ ws xs o. priority o) & (λ ws xs o. pbandwidth o) & (λ ws xs o. exactbandwidth o) & (λ ws xs o. borrow o) & (λ ws xs o. control o)

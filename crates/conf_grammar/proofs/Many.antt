@@ -4,7 +4,7 @@ use Rattle.std.proofs.lemmas.List.{length-append}
 use Rattle.conf_lines.proofs.GrammarPlaces.{at_option}
 use Rattle.conf_lines.proofs.Readings.{past}
 use Rattle.conf_lines.specs.Grammar.{chosen, end, step}
-use Rattle.conf_lines.specs.Options.{one_of, option_of, options_of, settles, slots_of, word_of_key}
+use Rattle.conf_lines.specs.Options.{one_of, option_of, options_of, completes, slots_of, word_of_key}
 use Rattle.conf_lines.specs.Slots.{is_text}
 use Rattle.conf_lines.specs.Texts.{fault_at}
 use Rattle.conf_lines.specs.declared.item.What.{What}
@@ -37,7 +37,7 @@ Row Of k = (words : List (List ℕ)) (says : List What) → Written k words says
 
 -- the options of a form are these, and the test of what must be among them is that of the table
 pub record Choice (form : Form) (test : Key → Bool) (Of : Phrase) : Type 0 where
-  pub settles : Each (λ k. test k ≡ settles k) (options_of form)
+  pub completes : Each (λ k. test k ≡ completes k) (options_of form)
   pub keyed : {words : List (List ℕ)} {says : List What} → Of words says → Keyed (options_of form) words says
   pub rows : Each (Row Of) (options_of form)
 
@@ -57,69 +57,69 @@ also_keyed {keys} (keyed k found o) named = keyed k (find_row keys (word_of_key 
 
 module _ (form : Form) (test : Key → Bool) (Of : Phrase) (choice : Choice form test Of) where
   -- THE READING OF OPTIONS
-  end_read : (settled : Bool) → (settled || false) ≡ true → Good form (at_option form settled) [] []
+  end_read : (completed : Bool) → (completed || false) ≡ true → Good form (at_option form completed) [] []
   unfolding end
   end_read true e = record { is = λ line at. refl }
   end_read false e = absurd cc
 
-  settled_by : (settled : Bool) (k : Key) (said rest : List What) → test k ≡ settles k → has test (said ++ rest) ≡ has test rest
-      → (settled || has test (what.Key k ∷ (said ++ rest))) ≡ ((settled || settles k) || has test rest)
-  settled_by true k said rest e f = refl
-  settled_by false k said rest e f = rw (e, f) refl
+  completed_by : (completed : Bool) (k : Key) (said rest : List What) → test k ≡ completes k → has test (said ++ rest) ≡ has test rest
+      → (completed || has test (what.Key k ∷ (said ++ rest))) ≡ ((completed || completes k) || has test rest)
+  completed_by true k said rest e f = refl
+  completed_by false k said rest e f = rw (e, f) refl
 
-  key_read : (settled : Bool) {words rest : List (List ℕ)} {says others : List What} → Keyed (options_of form) words says
-      → (settled || has test (says ++ others)) ≡ true
+  key_read : (completed : Bool) {words rest : List (List ℕ)} {says others : List What} → Keyed (options_of form) words says
+      → (completed || has test (says ++ others)) ≡ true
       → ((next : Bool) → (next || has test others) ≡ true → Good form (at_option form next) rest others)
-      → Good form (at_option form settled) (words ++ rest) (says ++ others)
+      → Good form (at_option form completed) (words ++ rest) (says ++ others)
   unfolding step
-  key_read settled {others = others} (keyed k found (option {words = values} {says = said} v)) s next =
-      let is = (find_row (options_of form) (word_of_key k) k choice.settles found).1 in
-      let q = at_option form (settled || settles k) in
+  key_read completed {others = others} (keyed k found (option {words = values} {says = said} v)) s next =
+      let is = (find_row (options_of form) (word_of_key k) k choice.completes found).1 in
+      let q = at_option form (completed || completes k) in
       let quiet = values_are_none test (slots_of k) values said others v in
-      one_more (at_option form settled) (wanting (slots_of k) q) (word_of_key k) (what.Key k) (rw found refl)
-      ((values_lead (slots_of k) q).read v (next (settled || settles k) (sym (settled_by settled k said others is quiet) ∙ s)))
+      one_more (at_option form completed) (wanting (slots_of k) q) (word_of_key k) (what.Key k) (rw found refl)
+      ((values_lead (slots_of k) q).read v (next (completed || completes k) (sym (completed_by completed k said others is quiet) ∙ s)))
 
-  pub many_read : (settled : Bool) {words : List (List ℕ)} {says : List What} → Many Of words says → (settled || has test says) ≡ true
-      → Good form (at_option form settled) words says
-  many_read settled none s = end_read settled s
-  many_read settled (more o os) s = key_read settled (choice.keyed o) s (λ next t. many_read next os t)
+  pub many_read : (completed : Bool) {words : List (List ℕ)} {says : List What} → Many Of words says → (completed || has test says) ≡ true
+      → Good form (at_option form completed) words says
+  many_read completed none s = end_read completed s
+  many_read completed (more o os) s = key_read completed (choice.keyed o) s (λ next t. many_read next os t)
 
   -- WHAT WAS READ
-  pub record Options (settled : Bool) (words : List (List ℕ)) : Type 0 where
+  pub record Options (completed : Bool) (words : List (List ℕ)) : Type 0 where
     pub says : List What
     pub are : Many Of words says
-    pub whole : (settled || has test says) ≡ true
+    pub whole : (completed || has test says) ≡ true
 
-  no_end : (settled : Bool) (line at : ℕ) → fault_at line at (end (at_option form settled)) ≡ None → settled ≡ true
+  no_end : (completed : Bool) (line at : ℕ) → fault_at line at (end (at_option form completed)) ≡ None → completed ≡ true
   unfolding end
   no_end true line at e = refl
   no_end false line at e = absurd cc
 
-  pub many_found : (n : ℕ) (settled : Bool) (line : ℕ) (words : List (List ℕ)) (at : ℕ) → length words ≤ n
-      → NoFault line words (at_option form settled) at → Options settled words
+  pub many_found : (n : ℕ) (completed : Bool) (line : ℕ) (words : List (List ℕ)) (at : ℕ) → length words ≤ n
+      → NoFault line words (at_option form completed) at → Options completed words
   unfolding step
-  many_found n settled line [] at few h =
-      let s = no_end settled line at h in record { says = []; are = none; whole = rw s refl }
-  many_found zero settled line (w ∷ words) at few h = absurd (omega (arith, few))
-  many_found (suc n) settled line (w ∷ words) at few h = go (many_found n) (option_of form w) refl h
+  many_found n completed line [] at few h =
+      let s = no_end completed line at h in record { says = []; are = none; whole = rw s refl }
+  many_found zero completed line (w ∷ words) at few h = absurd (omega (arith, few))
+  many_found (suc n) completed line (w ∷ words) at few h = go (many_found n) (option_of form w) refl h
     where
       go : ((s : Bool) (line : ℕ) (rest : List (List ℕ)) (at : ℕ) → length rest ≤ n → NoFault line rest (at_option form s) at → Options s rest)
-          → (o : Option Key) → option_of form w ≡ o → (past line words (at_option form settled) at (chosen (at_option form settled) w o)).fault ≡ None
-          → Options settled (w ∷ words)
-      go later None e h = absurd (err_is line words (at_option form settled) at (chosen (at_option form settled) w None) (refused_is w) h)
+          → (o : Option Key) → option_of form w ≡ o → (past line words (at_option form completed) at (chosen (at_option form completed) w o)).fault ≡ None
+          → Options completed (w ∷ words)
+      go later None e h = absurd (err_is line words (at_option form completed) at (chosen (at_option form completed) w None) (refused_is w) h)
       go later (Some k) e h =
           let row = find_row (options_of form) w k choice.rows e in
-          let is = (find_row (options_of form) w k choice.settles e).1 in
-          let f = (values_lead (slots_of k) (at_option form (settled || settles k))).found line words (at + 1) h in
+          let is = (find_row (options_of form) w k choice.completes e).1 in
+          let f = (values_lead (slots_of k) (at_option form (completed || completes k))).found line words (at + 1) h in
           let one = row.1 (word_of_key k ∷ f.front) (what.Key k ∷ f.says) (option f.is) in
           let len = ap length f.split in
           let short : length f.rest ≤ n = omega (arith, few, len, length-append f.front f.rest) in
-          let os = later (settled || settles k) line f.rest f.at short f.on in
+          let os = later (completed || completes k) line f.rest f.at short f.on in
           let quiet = values_are_none test (slots_of k) f.front f.says os.says f.is in
           let all : w ∷ words ≡ (word_of_key k ∷ f.front) ++ f.rest =
           ap (λ (v : List ℕ). v ∷ words) row.0 ∙ ap (λ (ws : List (List ℕ)). word_of_key k ∷ ws) f.split in
           record {
             says = (what.Key k ∷ f.says) ++ os.says;
             are = subst (λ (ws : List (List ℕ)). Many Of ws ((what.Key k ∷ f.says) ++ os.says)) (sym all) (more one os.are);
-            whole = settled_by settled k f.says os.says is quiet ∙ os.whole;
+            whole = completed_by completed k f.says os.says is quiet ∙ os.whole;
           }

@@ -69,7 +69,7 @@ at_address q = in_front 4 2 (at_port q)
 mask_stands : (q : Place) → MayStand key.Netmask (at_mask q) (wanting slots.Mask (at_port q)) (at_port q)
 unfolding step end is_text whole_in are_plain
 mask_stands q =
-    record { form = refl; named = λ w e. rw (e, or-false q.settled) refl; other = λ w e. rw e refl; ends = refl; refused = tt }
+    record { form = refl; named = λ w e. rw (e, or-false q.completed) refl; other = λ w e. rw e refl; ends = refl; refused = tt }
 
 pub address_part : (q : Place) → Leads q.form Address (at_address q) (at_port q)
 unfolding step end
@@ -113,7 +113,7 @@ name_stands : (q : Place) → Unruled q → MayStand key.Name (at_rule q) (wanti
 unfolding step end is_text
 name_stands q u = record {
   form = refl;
-  named = λ w e. rw (e, or-false q.settled) refl;
+  named = λ w e. rw (e, or-false q.completed) refl;
   other = λ w e. by_text (codes "ruleno") w (λ f. rw (e, f) refl) (λ f. rw (e, f) (u.behind_name w ∙ sym (u.behind_ruleno w)));
   ends = refl;
   refused = rw (u.behind_ruleno (codes "name")) u.name;
@@ -122,7 +122,7 @@ name_stands q u = record {
 ruleno_stands : (q : Place) → Unruled q → MayStand key.Ruleno (at_ruleno q) (wanting (slots_of key.Ruleno) (resumed q)) (resumed q)
 unfolding step end is_text
 ruleno_stands q u =
-    record { form = refl; named = λ w e. rw (e, or-false q.settled) refl; other = λ w e. rw e (u.behind_ruleno w); ends = refl; refused = u.ruleno }
+    record { form = refl; named = λ w e. rw (e, or-false q.completed) refl; other = λ w e. rw e (u.behind_ruleno w); ends = refl; refused = u.ruleno }
 
 pub rule_ends : {Rest : Phrase} (q : Place) → Unruled q → Ends q.form Rest (resumed q) → Ends q.form (Rule Rest) (at_rule q)
 rule_ends q u rest =

@@ -1,4 +1,4 @@
--- THE GRAMMAR: what a user writes of each statement, after altq.conf(5) and docs/CONFIGURATION.md.
+-- THE GRAMMAR: what a user writes of each statement, after altq.conf(5) and docs/reference/CONFIGURATION.md.
 use Rattle.std.specs.Prelude.{◌≡◌, ◌-◌, ◌^◌, ℕ, Bool, true, List, ◌∷◌, codes}
 use Rattle.line_text.specs.Names.{is_name}
 use Rattle.conf_lines.specs.declared.item.What.{What}

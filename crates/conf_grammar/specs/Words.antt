@@ -1,4 +1,4 @@
--- What one word may be, or the words behind an option, after altq.conf(5) and docs/CONFIGURATION.md. A phrase relates words to what they
+-- What one word may be, or the words behind an option, after altq.conf(5) and docs/reference/CONFIGURATION.md. A phrase relates words to what they
 -- say. The forms of numbers, names and addresses are those of line_text.
 use Rattle.std.specs.Prelude.{◌≡◌, ◌<◌, ◌≤◌, ◌^◌, ℕ, true, List, [], ◌∷◌, None, Some, codes}
 use Rattle.line_text.specs.Addresses.{ip4_of, ip6_of}

@@ -19,7 +19,7 @@ use Rattle.conf_tree.specs.declared.filter.Filter.{Filter}
 use Rattle.conf_tree.specs.declared.interface.Interface.{Interface}
 use Rattle.conf_tree.specs.declared.interface.Kind.{Kind}
 use Rattle.conf_tree.specs.declared.interface.Kind.TheVariants.{Hfsc, Cbq}
-use Rattle.conf_laws.specs.Fit.{IsName, IsWithin, IsOfKind, IsFilter, IsTos, AreAddresses, IsInterface, AreFit, HasParent}
+use Rattle.conf_laws.specs.Fit.{IsName, IsBetween, IsOfKind, IsFilter, IsTos, AreAddresses, IsInterface, AreFit, HasParent}
 use Rattle.conf_laws.proofs.Bytes.{every-append}
 use Rattle.conf_laws.proofs.ClassOptions.{Part, between, settings_of, hfsc_part, cbq_part, all_read}
 use Rattle.conf_laws.proofs.ListPlaces.{Each, element}
@@ -28,28 +28,28 @@ use Rattle.conf_laws.proofs.Printed.{address_is_read, mask_is_read, prefix_is_re
 use Rattle.conf_laws.proofs.Types.{Settings}
 
 -- INTERFACES AND CLASSES
-interface_is_read : (i : Interface) (kind : Kind) → IsName i.name → IsWithin 1000 most_rate i.rate → IsRead (interface_line (record i { kind = kind }))
+interface_is_read : (i : Interface) (kind : Kind) → IsName i.name → IsBetween 1000 most_rate i.rate → IsRead (interface_line (record i { kind = kind }))
 unfolding step at_statement is_text end
 interface_is_read i Hfsc is_name is_rate = λ line. rw (name_is_read i.name is_name, rate_is_read 1000 most_rate i.rate is_rate (omega arith)) refl
 interface_is_read i Cbq is_name is_rate = λ line. rw (name_is_read i.name is_name, rate_is_read 1000 most_rate i.rate is_rate (omega arith)) refl
 
-interface_is_legible : (i : Interface) → IsName i.name → IsWithin 1000 most_rate i.rate → IsLegible (interface_line i)
+interface_is_legible : (i : Interface) → IsName i.name → IsBetween 1000 most_rate i.rate → IsLegible (interface_line i)
 interface_is_legible i is_name is_rate = record { words = search arith; count = omega arith; read = interface_is_read i i.kind is_name is_rate }
 
 -- an HFSC class has what it must have: it is the root, or it has a link-sharing curve
-is_settled : (all : List Class) (parent : Option ℕ) (share : Option Curve) → (parent ≢ None → share ≢ None)
+is_completed : (all : List Class) (parent : Option ℕ) (share : Option Curve) → (parent ≢ None → share ≢ None)
     → (is_some share || is_text (codes "NULL") (parent_word all parent)) ≡ true
 unfolding is_text
-is_settled all parent (Some s) shared = refl
-is_settled all None None shared = refl
-is_settled all (Some p) None shared = absurd (shared (λ e. cc) refl)
+is_completed all parent (Some s) shared = refl
+is_completed all None None shared = refl
+is_completed all (Some p) None shared = absurd (shared (λ e. cc) refl)
 
-options_part : (kind : Kind) (all : List Class) (c : Class) → IsOfKind kind c → IsWithin 1 10000 c.limit
+options_part : (kind : Kind) (all : List Class) (c : Class) → IsOfKind kind c → IsBetween 1 10000 c.limit
     → Part (class_form kind) c.is_default (between (is_text (codes "NULL") (parent_word all c.parent)) unset) (between true (settings_of kind c))
     (class_options kind c) 17
 options_part Hfsc all c own limit =
-    let part = hfsc_part {settled = is_text (codes "NULL") (parent_word all c.parent)} c own limit in
-    rw (is_settled all c.parent c.share own.shared) at part
+    let part = hfsc_part {completed = is_text (codes "NULL") (parent_word all c.parent)} c own limit in
+    rw (is_completed all c.parent c.share own.shared) at part
 options_part Cbq all c own limit = let part = cbq_part c own limit in record { may = part.may; few = omega (arith, part.few); read = part.read; set = part.set }
 
 -- class hfsc or class cbq, three names and the options

@@ -52,11 +52,11 @@ abbrev Reads : List Interface → List Begun → List TextLine → Type 0
 Reads all before lines = (line : ℕ) → reading_from before (statements_from line lines) ≡ Ok all
 
 -- a name that no interface has so far
-abbrev IsNew : List ℕ → List Begun → Type 0
-IsNew name before = (j : ℕ) (b : Begun) → slice_get before j ≡ Some b → name ≢ b.name
+abbrev IsNewName : List ℕ → List Begun → Type 0
+IsNewName name before = (j : ℕ) (b : Begun) → slice_get before j ≡ Some b → name ≢ b.name
 
 -- the interface that is begun last is found by its name
-last_is : (before : List Begun) (b : Begun) → IsNew b.name before → interface_number b.name (before ++ b ∷ []) ≡ Some (length before)
+last_is : (before : List Begun) (b : Begun) → IsNewName b.name before → interface_number b.name (before ++ b ∷ []) ≡ Some (length before)
 last_is before b new =
     name_is_at (λ (a : Begun). a.name) (before ++ b ∷ []) (length before) b (get_pushed before b [])
     (λ j a g t. ⊎_elim (λ p. p.0) (λ old. absurd (new j a old t)) (get_push before b a j g))
@@ -77,7 +77,7 @@ reads_filter (V4 target target_mask source source_mask) before s = refl
 reads_filter (V6 target target_len source source_len) before s = refl
 
 -- AN INTERFACE WITH CLASSES
-module _ (all : List Interface) (before : List Begun) (i : Interface) (is : IsInterface i) (new : IsNew i.name before) where
+module _ (all : List Interface) (before : List Begun) (i : Interface) (is : IsInterface i) (new : IsNewName i.name before) where
   -- its first `classes` classes and `filters` filters are read, and the conditioners of its first `meters` classes; lines that are read from
   -- there on; a statement that leads from there to the next
   abbrev Has : ℕ → ℕ → ℕ → Begun → Type 0
@@ -192,7 +192,7 @@ next_interface : (all : List Interface) → AreFit all → (k : ℕ) (i : Interf
     → Reads all before (canonical_lines (i ∷ rest))
 next_interface all fit k i rest before at h on line =
     let is = fit.interface k i at in
-    let new : IsNew i.name before = λ j b g t.
+    let new : IsNewName i.name before = λ j b g t.
     let same = fit.names k j i (whole b) at (h.each j b g).0 t in
     omega (arith, h.count, slice_get_within before j b g) in
     let room = lt-leb 16 (length before) (omega (arith, fit.count, h.count, slice_get_within all k i at)) in

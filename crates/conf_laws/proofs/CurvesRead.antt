@@ -7,9 +7,9 @@ use Rattle.conf_lines.specs.Grammar.{is_convex}
 use Rattle.conf_lines.specs.Options.{most_rate}
 use Rattle.conf_tree.specs.Items.{within}
 use Rattle.conf_tree.specs.Settings.{made, curve_of}
-use Rattle.conf_laws.specs.Fit.{IsWithin, IsCurve}
+use Rattle.conf_laws.specs.Fit.{IsBetween, IsCurve}
 
-pub within_is : (low high n : ℕ) → IsWithin low high n → within low high (Some n) ≡ Some n
+pub within_is : (low high n : ℕ) → IsBetween low high n → within low high (Some n) ≡ Some n
 within_is low high n h = grind (arith, nat_tests)
 
 pub not_upward : (m1 d m2 : ℕ) → (m1 ≡ 0) ⊎ (m2 ≤ m1) → is_convex m1 d m2 ≡ false

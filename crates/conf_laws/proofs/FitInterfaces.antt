@@ -17,7 +17,7 @@ use Rattle.conf_tree.specs.Meters.{IsMeter, IsMeterIfAny}
 use Rattle.conf_tree.specs.Family.{IsOnLevel, root, below}
 use Rattle.conf_tree.specs.declared.interface.Interface.{Interface}
 use Rattle.conf_tree.specs.Whole.{implied_hfsc, implied_cbq, implied_classes, is_empty, whole}
-use Rattle.conf_laws.specs.Fit.{IsName, IsWithin, IsParent, HasParent, IsOfKind, IsClass, IsTree, IsCurve, IsInterface}
+use Rattle.conf_laws.specs.Fit.{IsName, IsBetween, IsParent, HasParent, IsOfKind, IsClass, IsTree, IsCurve, IsInterface}
 use Rattle.conf_laws.proofs.FitItems.{HasParts, straight_fit}
 use Rattle.conf_laws.proofs.ListPlaces.{AtEach, HoldsAt, get_pushed, get_front, push_each, push_holds, set_at, set_each, set_holds, map_set_same, map_on, map_back, AreApart, push_apart, apart_by, map_through, not_among}
 use Rattle.conf_laws.proofs.Types.{Branch, Conditioner}
@@ -36,7 +36,7 @@ IsInner kind c = IsParent kind c.class × (kind ≡ Hfsc → c.filtered ≡ fals
 pub record IsBranch (kind : Kind) (c : Branch) : Type 0 where
   pub name : IsName c.class.name
   pub eight : c.level ≤ 8
-  pub limit : IsWithin 1 10000 c.class.limit
+  pub limit : IsBetween 1 10000 c.class.limit
   pub own : IsOfKind kind c.class
   pub meter : IsMeterIfAny c.class.meter
   pub inner : c.inner ≡ true → IsInner kind c
@@ -81,7 +81,7 @@ chosen_more false false defaults one h = push_each (λ k is. is ≡ false) defau
 -- an interface so far
 pub record IsBegun (b : Begun) : Type 0 where
   pub name : IsName b.name
-  pub rate : IsWithin 1000 most_rate b.rate
+  pub rate : IsBetween 1000 most_rate b.rate
   pub room : length b.classes ≤ 256
   pub few : length b.filters ≤ 1024
   pub rooted : b.rooted ≡ false → length b.classes ≡ 0
@@ -90,7 +90,7 @@ pub record IsBegun (b : Begun) : Type 0 where
   pub names : AreApart (map class_name b.classes)
   pub default : IsChosen b.chosen (map is_default b.classes)
 
-pub begun_fit : (line : ℕ) (name : List ℕ) (rate : ℕ) (kind : Kind) → IsName name → IsWithin 1000 most_rate rate → IsBegun (begun line name rate kind)
+pub begun_fit : (line : ℕ) (name : List ℕ) (rate : ℕ) (kind : Kind) → IsName name → IsBetween 1000 most_rate rate → IsBegun (begun line name rate kind)
 begun_fit line name rate kind named within = search (rules, arith)
 
 -- ANOTHER CLASS AT A PLACE: it differs in its real-time curve, in its meter, and in whether a class or a filter names it
@@ -128,7 +128,7 @@ abbrev pub MayStand : Begun → ℕ → Option ℕ → Type 0
 MayStand b level None = (b.rooted ≡ false) × (level ≡ 1)
 MayStand b level (Some p) = HoldsAt (IsAbove b.kind level) b.classes p
 
-pub record IsNew (kind : Kind) (b : Begun) (c : Branch) : Type 0 where
+pub record IsNewName (kind : Kind) (b : Begun) (c : Branch) : Type 0 where
   pub branch : IsBranch kind c
   pub new : is_some (class_number c.class.name b.classes) ≡ false
   pub room : length b.classes < 256
@@ -164,7 +164,7 @@ ready b level (Some p) h s =
       rooted = or_left b.rooted false (true_from_ne_false b.rooted (λ free. let none = h.rooted free in omega arith));
     })
 
-pub class_added : (b : Begun) (c : Branch) → IsBegun b → IsNew b.kind b c → IsBegun (add_class b c)
+pub class_added : (b : Begun) (c : Branch) → IsBegun b → IsNewName b.kind b c → IsBegun (add_class b c)
 class_added b c h n =
     let classes = with_parent b.classes c.class.parent in
     let r = ready b c.level c.class.parent h n.stands in
@@ -300,14 +300,14 @@ bare kind rate = begun 0 (codes "root") rate kind
 abbrev on_its_own : Class → ℕ → Branch
 on_its_own c level = record { class = c; level = level; fixed = false; inner = false; filtered = false }
 
-two_tree : (kind : Kind) (rate : ℕ) (top leaf : Branch) → IsWithin 1000 most_rate rate → IsNew kind (bare kind rate) top
-    → IsNew kind (add_class (bare kind rate) top) leaf → let b = add_class (add_class (bare kind rate) top) leaf in b.chosen ≡ true
+two_tree : (kind : Kind) (rate : ℕ) (top leaf : Branch) → IsBetween 1000 most_rate rate → IsNewName kind (bare kind rate) top
+    → IsNewName kind (add_class (bare kind rate) top) leaf → let b = add_class (add_class (bare kind rate) top) leaf in b.chosen ≡ true
     → IsTree kind (map class_in b.classes) []
 two_tree kind rate top leaf h new next =
     let b = add_class (bare kind rate) top in
     tree_fit (add_class b leaf) (class_added b leaf (class_added (bare kind rate) top (begun_fit 0 (codes "root") rate kind refl h) new) next)
 
-implied_tree : (kind : Kind) (rate : ℕ) → IsWithin 1000 most_rate rate → IsTree kind (implied_classes kind rate) []
+implied_tree : (kind : Kind) (rate : ℕ) → IsBetween 1000 most_rate rate → IsTree kind (implied_classes kind rate) []
 implied_tree kind rate h = by kind
   where
     named : codes "root" ≢ codes "NULL"

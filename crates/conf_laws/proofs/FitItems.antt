@@ -29,17 +29,17 @@ use Rattle.conf_tree.specs.Settings.{unset, made, curve_of, curve_in_slots, perc
 use Rattle.conf_tree.specs.declared.filter.Filter.{Filter}
 use Rattle.conf_tree.specs.Filters.{has_option, has_name, past_option, past_name, option_number, as_ip4, ip4_in, mask_in, with_mask, address4_in, address4, with_length, address6_in, address6, addresses, under_mask, tos_in, filter_of}
 use Rattle.conf_tree.specs.Masks.{masked, upper, prefix}
-use Rattle.conf_laws.specs.Fit.{IsWithin, IsCurve, IsCurveIfAny, IsMasked, IsPrefix, AreAddresses, IsTos}
-use Rattle.conf_laws.proofs.Types.{Settings, Scope}
+use Rattle.conf_laws.specs.Fit.{IsBetween, IsCurve, IsCurveIfAny, IsMasked, IsPrefix, AreAddresses, IsTos}
+use Rattle.conf_laws.proofs.Types.{Settings, ReadContext}
 
 -- NUMBERS of a range
-within_by : (low high n : ℕ) → (nat_le low n && nat_le n high) ≡ true → IsWithin low high n
+within_by : (low high n : ℕ) → (nat_le low n && nat_le n high) ≡ true → IsBetween low high n
 within_by low high n t = grind (arith, nat_tests)
 
-within_fit : (low high : ℕ) (o : Option ℕ) → IfSome (within low high o) (IsWithin low high)
+within_fit : (low high : ℕ) (o : Option ℕ) → IfSome (within low high o) (IsBetween low high)
 within_fit low high o = grind (arith, nat_tests)
 
-number_fit : (low high : ℕ) (items : List Item) (i : ℕ) → IfSome (number_at low high items i) (IsWithin low high)
+number_fit : (low high : ℕ) (items : List Item) (i : ℕ) → IfSome (number_at low high items i) (IsBetween low high)
 number_fit low high items i = within_fit low high (number_in (slice_get items i))
 
 -- what is given, or what was there before
@@ -47,21 +47,21 @@ given_or : {A : Type 0} (P : A → Type 0) (o : Option A) (x : A) → IfSome o P
 given_or P None x h k = k
 given_or P (Some y) x h k = h
 
-pub number_or : (low high : ℕ) (items : List Item) (x : ℕ) → IsWithin low high x → IsWithin low high (unwrap_or (number_at low high items 0) x)
-number_or low high items x h = given_or (IsWithin low high) (number_at low high items 0) x (number_fit low high items 0) h
+pub number_or : (low high : ℕ) (items : List Item) (x : ℕ) → IsBetween low high x → IsBetween low high (unwrap_or (number_at low high items 0) x)
+number_or low high items x h = given_or (IsBetween low high) (number_at low high items 0) x (number_fit low high items 0) h
 
 pub either : {A : Type 0} (P : Option A → Type 0) (o x : Option A) → P o → P x → P (option_or o x)
 either P None x h k = k
 either P (Some y) x h k = h
 
 -- CURVES
-pub straight_fit : (low least m : ℕ) → low ≤ least → IsWithin least most_rate m → IsCurve low least (straight m)
+pub straight_fit : (low least m : ℕ) → low ≤ least → IsBetween least most_rate m → IsCurve low least (straight m)
 straight_fit low least m below h = search (rules, arith, le_refl)
 
 bends_down : (m1 d m2 : ℕ) → is_convex m1 d m2 ≡ false → 0 < d → (m1 ≡ 0) ⊎ (m2 ≤ m1)
 bends_down m1 d m2 e h = grind (arith, nat_tests)
 
-made_fit : (low least m1 d m2 : ℕ) → low ≤ least → IsWithin low most_rate m1 → d ≤ 1000000 → IsWithin least most_rate m2 → is_convex m1 d m2 ≡ false
+made_fit : (low least m1 d m2 : ℕ) → low ≤ least → IsBetween low most_rate m1 → d ≤ 1000000 → IsBetween least most_rate m2 → is_convex m1 d m2 ≡ false
     → IsCurve low least (made m1 (d * 10 ^ 6) m2)
 made_fit low least m1 d m2 below first bend second e =
     cond_both (d * 10 ^ 6 == 0 || m1 == m2) _ _ (IsCurve low least) (λ t. straight_fit low least m2 below second) (λ t.
@@ -70,8 +70,8 @@ made_fit low least m1 d m2 below first bend second e =
     let whole : (n : ℕ) × (n ≤ 1000000) × (d * 10 ^ 6 ≡ n * 10 ^ 6) = (d, bend, refl) in
     search (rules, arith, whole, bent, eqb-false m1 m2 parts.1, bends_down m1 d m2 e (omega arith)))
 
-curve_of_fit : (low least : ℕ) (m1 d m2 : Option ℕ) → low ≤ least → IfSome m1 (IsWithin low most_rate) → IfSome d (IsWithin 0 1000000)
-    → IfSome m2 (IsWithin least most_rate) → IsCurveIfAny low least (curve_of m1 d m2)
+curve_of_fit : (low least : ℕ) (m1 d m2 : Option ℕ) → low ≤ least → IfSome m1 (IsBetween low most_rate) → IfSome d (IsBetween 0 1000000)
+    → IfSome m2 (IsBetween least most_rate) → IsCurveIfAny low least (curve_of m1 d m2)
 curve_of_fit low least (Some m1) (Some d) (Some m2) below h k l =
     cond_both (is_convex m1 d m2) _ _ (IsCurveIfAny low least) (λ t. tt) (λ t. made_fit low least m1 d m2 below h k.1 l t)
 curve_of_fit low least _ _ _ below h k l = tt
@@ -82,14 +82,14 @@ curve_fit low least items below =
 
 curve_less : (o : Option Curve) → IsCurveIfAny 0 1 o → IsCurveIfAny 0 0 o
 curve_less None h = tt
-curve_less (Some s) h = let second : IsWithin 0 most_rate s.m2 = omega (arith, h.second) in assumption (second, h)
+curve_less (Some s) h = let second : IsBetween 0 most_rate s.m2 = omega (arith, h.second) in assumption (second, h)
 
-line_fit : (low least most : ℕ) (f : ℕ → ℕ) (o : Option ℕ) → IfSome o (IsWithin low most) → ((n : ℕ) → IsWithin low most n → IsWithin least most_rate (f n))
+line_fit : (low least most : ℕ) (f : ℕ → ℕ) (o : Option ℕ) → IfSome o (IsBetween low most) → ((n : ℕ) → IsBetween low most n → IsBetween least most_rate (f n))
     → IsCurveIfAny 0 least (option_map (λ n. straight (f n)) o)
 line_fit low least most f None h k = tt
 line_fit low least most f (Some n) h k = straight_fit 0 least (f n) (omega arith) (k n h)
 
-percent_fit : (rate n : ℕ) → IsWithin 1000 most_rate rate → IsWithin 1 100 n → IsWithin 1 most_rate (percent rate n)
+percent_fit : (rate n : ℕ) → IsBetween 1000 most_rate rate → IsBetween 1 100 n → IsBetween 1 most_rate (percent rate n)
 percent_fit rate n h k =
     let below : n * rate ≤ 100 * rate = mul-le-mul k.1 (le_refl rate) in
     let above : 1 * 1000 ≤ n * rate = mul-le-mul k.0 h.0 in
@@ -100,11 +100,11 @@ pub record AreSet (chosen : Bool) (s : Settings) : Type 0 where
   pub real : IsCurveIfAny 0 0 s.real
   pub share : IsCurveIfAny 0 1 s.share
   pub upper : IsCurveIfAny 1000 1000 s.upper
-  pub rate : IfSome s.rate (IsWithin 1000 most_rate)
-  pub priority : IsWithin 0 7 s.priority
-  pub maxburst : IsWithin 1 1000 s.maxburst
-  pub packetsize : IsWithin 1 262144 s.packetsize
-  pub limit : IsWithin 1 10000 s.limit
+  pub rate : IfSome s.rate (IsBetween 1000 most_rate)
+  pub priority : IsBetween 0 7 s.priority
+  pub maxburst : IsBetween 1 1000 s.maxburst
+  pub packetsize : IsBetween 1 262144 s.packetsize
+  pub limit : IsBetween 1 10000 s.limit
   pub is_default : s.is_default ≡ true → chosen ≡ false
 
 abbrev AreSetIfOk : Bool → Result Settings ConfPlace → Type 0
@@ -113,22 +113,22 @@ AreSetIfOk chosen r = IfOk r (AreSet chosen)
 pub unset_fit : (chosen : Bool) → AreSet chosen unset
 unset_fit chosen = search (rules, arith)
 
-percent_set : (scope : Scope) (s : Settings) (word : ℕ) (o : Option ℕ) → AreSet scope.chosen s → AreSetIfOk scope.chosen (set_percent scope s word o)
+percent_set : (scope : ReadContext) (s : Settings) (word : ℕ) (o : Option ℕ) → AreSet scope.chosen s → AreSetIfOk scope.chosen (set_percent scope s word o)
 percent_set scope s word None h = h
 percent_set scope s word (Some n) h =
     let rate = percent scope.rate n in
     cond_both (nat_le 1000 rate && nat_le rate most_rate) _ _ (AreSetIfOk scope.chosen)
-    (λ t. let within : IsWithin 1000 most_rate rate = within_by 1000 most_rate rate t in assumption (within, h))
+    (λ t. let within : IsBetween 1000 most_rate rate = within_by 1000 most_rate rate t in assumption (within, h))
     (λ t. tt)
 
-default_fit : (scope : Scope) (s : Settings) (word : ℕ) → AreSet scope.chosen s → AreSetIfOk scope.chosen (set_default scope s word)
+default_fit : (scope : ReadContext) (s : Settings) (word : ℕ) → AreSet scope.chosen s → AreSetIfOk scope.chosen (set_default scope s word)
 default_fit scope s word h =
     cond_both (scope.chosen || s.is_default) _ _ (AreSetIfOk scope.chosen)
     (λ t. tt)
     (λ t. let free : true ≡ true → scope.chosen ≡ false = λ e. (or_parts scope.chosen s.is_default t).0 in assumption (free, h))
 
 -- each option
-option_fit : (scope : Scope) (s : Settings) (word : ℕ) (option : Key) (items : List Item) → IsWithin 1000 most_rate scope.rate → AreSet scope.chosen s
+option_fit : (scope : ReadContext) (s : Settings) (word : ℕ) (option : Key) (items : List Item) → IsBetween 1000 most_rate scope.rate → AreSet scope.chosen s
     → AreSetIfOk scope.chosen (set_option scope s word option items)
 option_fit scope s word key.Sc items r h =
     let curve = curve_behind key.Sc items in
@@ -153,12 +153,12 @@ option_fit scope s word key.Default items r h = default_fit scope s word h
 option_fit scope s word key.Priority items r h = let priority = number_or 0 7 items s.priority h.priority in assumption (priority, h)
 option_fit scope s word key.Pbandwidth items r h = percent_set scope s (word_at items 0) (number_at 0 100 items 0) h
 option_fit scope s word key.Exactbandwidth items r h =
-    let rate = either (λ o. IfSome o (IsWithin 1000 most_rate)) _ s.rate (number_fit 1000 most_rate items 0) h.rate in assumption (rate, h)
+    let rate = either (λ o. IfSome o (IsBetween 1000 most_rate)) _ s.rate (number_fit 1000 most_rate items 0) h.rate in assumption (rate, h)
 option_fit scope s word key.Maxburst items r h = let maxburst = number_or 1 1000 items s.maxburst h.maxburst in assumption (maxburst, h)
 option_fit scope s word key.Packetsize items r h = let size = number_or 1 262144 items s.packetsize h.packetsize in assumption (size, h)
 option_fit scope s word _ items r h = assumption h
 
-word_fit : (scope : Scope) (s : Settings) (word : ℕ) (says : What) (items : List Item) → IsWithin 1000 most_rate scope.rate → AreSet scope.chosen s
+word_fit : (scope : ReadContext) (s : Settings) (word : ℕ) (says : What) (items : List Item) → IsBetween 1000 most_rate scope.rate → AreSet scope.chosen s
     → AreSetIfOk scope.chosen (set_by_word scope s word says items)
 word_fit scope s word (what.Key option) items r h = option_fit scope s word option items r h
 word_fit scope s word _ items r h = h
@@ -169,7 +169,7 @@ pub fit_next : {A B : Type 0} (R : A → Type 0) (Q : B → Type 0) (r : Result 
 fit_next R Q (Ok x) next h k = k x h
 fit_next R Q (Err fault) next h k = tt
 
-pub options_fit : (scope : Scope) (s : Settings) (items : List Item) → IsWithin 1000 most_rate scope.rate → AreSet scope.chosen s
+pub options_fit : (scope : ReadContext) (s : Settings) (items : List Item) → IsBetween 1000 most_rate scope.rate → AreSet scope.chosen s
     → AreSetIfOk scope.chosen (set_options scope s items)
 options_fit scope s [] r h = h
 options_fit scope s (item ∷ items) r h =
@@ -246,11 +246,11 @@ sound_option : (items : List Item) → AreSound items → AreSound (past_option 
 sound_option items h = pick AreSound (has_option items) _ _ (sound_drop 2 items h) h
 
 -- THE PARTS OF A FILTER: its numbers
-part_fit : (most other : ℕ) (o : Option ℕ) → other ≤ most → IfSome o (IsWithin 0 most) → unwrap_or o other ≤ most
-part_fit most other o h k = (given_or (IsWithin 0 most) o other k (omega arith)).1
+part_fit : (most other : ℕ) (o : Option ℕ) → other ≤ most → IfSome o (IsBetween 0 most) → unwrap_or o other ≤ most
+part_fit most other o h k = (given_or (IsBetween 0 most) o other k (omega arith)).1
 
-option_number_fit : (most : ℕ) (items : List Item) → IfSome (option_number most items) (IsWithin 0 most)
-option_number_fit most items = pick (λ o. IfSome o (IsWithin 0 most)) (has_option items) _ _ (number_fit 0 most items 1) tt
+option_number_fit : (most : ℕ) (items : List Item) → IfSome (option_number most items) (IsBetween 0 most)
+option_number_fit most items = pick (λ o. IfSome o (IsBetween 0 most)) (has_option items) _ _ (number_fit 0 most items 1) tt
 
 under_fit : (o : Option ℕ) (mask : ℕ) → mask ≤ 255 → IsTos (under_mask o mask)
 under_fit None mask h = tt

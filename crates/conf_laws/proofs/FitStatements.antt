@@ -33,12 +33,12 @@ use Rattle.conf_tree.specs.Tree.{Begun, begun, as_parent, interface_name, interf
 use Rattle.conf_tree.specs.declared.interface.Interface.{Interface}
 use Rattle.conf_tree.specs.Whole.{is_empty, whole, undecided, first_undecided, finished_unless}
 use Rattle.conf_tree.proofs.MetersFit.{meter_fits}
-use Rattle.conf_laws.specs.Fit.{IsName, IsWithin, IsParent, IsInterface, AreFit}
-use Rattle.conf_laws.proofs.FitInterfaces.{IsBegun, MayStand, whole_fit, begun_fit, IsNew, IsNewFilter, IsNewConditioner, class_added, filter_added, conditioner_added}
+use Rattle.conf_laws.specs.Fit.{IsName, IsBetween, IsParent, IsInterface, AreFit}
+use Rattle.conf_laws.proofs.FitInterfaces.{IsBegun, MayStand, whole_fit, begun_fit, IsNewName, IsNewFilter, IsNewConditioner, class_added, filter_added, conditioner_added}
 use Rattle.conf_laws.proofs.FitItems.{filter_fit, sound_at, sound_drop, AreSet, unset_fit, options_fit, number_or, either, fit_next}
 use Rattle.conf_laws.proofs.InTurn.{fit_then, fit_any, fit_some, fit_refuse, fit_whole}
 use Rattle.conf_laws.proofs.ListPlaces.{AtEach, push_each, set_each, map_set_same, AreApart, push_apart, not_among, map_back, apart_by}
-use Rattle.conf_laws.proofs.Types.{Branch, Settings, Spot, Shape}
+use Rattle.conf_laws.proofs.Types.{Branch, Settings, TreePosition, ClassDraft}
 
 -- a name has its form
 name_of_fit : (says : What) → IsSound says → IfSome (name_of says) IsName
@@ -50,19 +50,19 @@ name_fit items i name h there =
     MatchOption-at_some (Unit {0}) IsName name there (sound_at (λ o. IfSome (name_in o) IsName) items i h tt (λ item k. name_of_fit item.what k))
 
 -- A CLASS STATEMENT: where the class stands
-abbrev IsSpot : Begun → Spot → Type 0
-IsSpot b spot = (spot.level ≤ 8) × MayStand b spot.level spot.parent
+abbrev IsPosition : Begun → TreePosition → Type 0
+IsPosition b spot = (spot.level ≤ 8) × MayStand b spot.level spot.parent
 
 without_meter : {A : Type 0} (o : Option A) → is_some o ≡ false → o ≡ None
 without_meter None e = refl
 without_meter (Some x) e = cc
 
 below_fit : (b : Begun) (s : Statement) (i : ℕ) (c : Branch) → slice_get b.classes i ≡ Some c → c.class.name ≢ codes "NULL"
-    → IfOk (below b.kind s i c) (IsSpot b)
+    → IfOk (below b.kind s i c) (IsPosition b)
 below_fit b s i c at named =
-    fit_refuse (IsSpot b) (nat_le 8 c.level) _ _ (λ deep.
-    fit_refuse (IsSpot b) c.fixed _ _ (λ fixed.
-    fit_refuse (IsSpot b) (is_queue b.kind c) _ _ (λ queue.
+    fit_refuse (IsPosition b) (nat_le 8 c.level) _ _ (λ deep.
+    fit_refuse (IsPosition b) c.fixed _ _ (λ fixed.
+    fit_refuse (IsPosition b) (is_queue b.kind c) _ _ (λ queue.
     let free = λ (hfsc : b.kind ≡ Hfsc). or_parts (c.class.is_default || c.filtered) (is_some c.class.meter) (rw hfsc at queue) in
     let unnamed = λ (hfsc : b.kind ≡ Hfsc). or_parts c.class.is_default c.filtered (free hfsc).0 in
     let low = leb-false 8 c.level deep in
@@ -80,29 +80,29 @@ parent_named parent classes i c e at =
     let yes = (position-Some (λ (x : Branch). bytes_eq parent x.class.name) classes i c e).1 in
     (bytes_eq-Decides parent c.class.name).0 (rw (get_or_from_slice_get classes i c c at) at yes)
 
-spot_fit : (b : Begun) (s : Statement) (parent : List ℕ) → IfOk (spot_of b s parent) (IsSpot b)
+spot_fit : (b : Begun) (s : Statement) (parent : List ℕ) → IfOk (spot_of b s parent) (IsPosition b)
 spot_fit b s parent =
-    cond_both (bytes_eq parent (codes "NULL")) _ _ (λ r. IfOk r (IsSpot b))
-    (λ null. fit_refuse (IsSpot b) b.rooted _ _ (λ first. (omega arith, (first, refl))))
+    cond_both (bytes_eq parent (codes "NULL")) _ _ (λ r. IfOk r (IsPosition b))
+    (λ null. fit_refuse (IsPosition b) b.rooted _ _ (λ first. (omega arith, (first, refl))))
     (λ other.
-    fit_some (IsSpot b) (class_number parent b.classes) _ _ (λ i number.
-    fit_some (IsSpot b) (slice_get b.classes i) _ _ (λ c at.
+    fit_some (IsPosition b) (class_number parent b.classes) _ _ (λ i number.
+    fit_some (IsPosition b) (slice_get b.classes i) _ _ (λ c at.
     below_fit b s i c at (λ null.
     let same = parent_named parent b.classes i c number at in
     both_ways (bytes_eq parent (codes "NULL")) other ((bytes_eq-Decides parent (codes "NULL")).1 (cc))))))
 
 -- its shape
-abbrev IsShapeOf : Kind → Shape → Type 0
-IsShapeOf Hfsc shape = shape.spot.parent ≢ None → shape.settings.share ≢ None
-IsShapeOf Cbq shape = IsWithin 1000 most_rate shape.rate
+abbrev IsDraftOf : Kind → ClassDraft → Type 0
+IsDraftOf Hfsc shape = shape.spot.parent ≢ None → shape.settings.share ≢ None
+IsDraftOf Cbq shape = IsBetween 1000 most_rate shape.rate
 
-record IsShape (kind : Kind) (b : Begun) (shape : Shape) : Type 0 where
-  spot : IsSpot b shape.spot
+record IsDraft (kind : Kind) (b : Begun) (shape : ClassDraft) : Type 0 where
+  spot : IsPosition b shape.spot
   settings : AreSet b.chosen shape.settings
-  own : IsShapeOf kind shape
+  own : IsDraftOf kind shape
 
-abbrev IsRated : Kind → Begun → Spot → Settings → ℕ → Type 0
-IsRated kind b spot settings rate = IsShape kind b (record { spot = spot; settings = settings; rate = rate })
+abbrev IsRated : Kind → Begun → TreePosition → Settings → ℕ → Type 0
+IsRated kind b spot settings rate = IsDraft kind b (record { spot = spot; settings = settings; rate = rate })
 
 has_share : (parent : Option ℕ) (share : Option Curve) → (is_some parent && is_none share) ≡ false → parent ≢ None → share ≢ None
 has_share parent share e child = grind arith
@@ -111,42 +111,42 @@ some_fit : {A : Type 0} (Q : A → Type 0) (o : Option A) (fault : ConfPlace) �
 some_fit Q None fault h = tt
 some_fit Q (Some x) fault h = h
 
-end_fit : (kind : Kind) (b : Begun) (s : Statement) (spot : Spot) (settings : Settings) → IsWithin 1000 most_rate b.rate → IsSpot b spot
+end_fit : (kind : Kind) (b : Begun) (s : Statement) (spot : TreePosition) (settings : Settings) → IsBetween 1000 most_rate b.rate → IsPosition b spot
     → AreSet b.chosen settings → IfOk (rate_at_end kind b s spot settings) (IsRated kind b spot settings)
 end_fit Hfsc b s spot settings r h k =
     fit_refuse (IsRated Hfsc b spot settings) (is_some spot.parent && is_none settings.share) _ _
     (λ shared. record { spot = h; settings = k; own = has_share spot.parent settings.share shared })
 end_fit Cbq b s spot settings r h k =
-    let IsRate : Option ℕ → Type 0 = λ o. IfSome o (IsWithin 1000 most_rate) in
+    let IsRate : Option ℕ → Type 0 = λ o. IfSome o (IsBetween 1000 most_rate) in
     let given = either IsRate settings.rate _ k.rate (cond_both (is_some spot.parent) None (Some b.rate) IsRate (λ child. tt) (λ root. r)) in
     some_fit (IsRated Cbq b spot settings) (rate_given b.rate spot settings) _
     (IfSome_then (rate_given b.rate spot settings) given (λ rate within. record { spot = h; settings = k; own = within }))
 
-shape_fit : (b : Begun) (s : Statement) (parent : List ℕ) → IsBegun b → IfOk (shape_below b s parent) (IsShape b.kind b)
+shape_fit : (b : Begun) (s : Statement) (parent : List ℕ) → IsBegun b → IfOk (shape_below b s parent) (IsDraft b.kind b)
 shape_fit b s parent h =
-    fit_then (IsSpot b) (IsShape b.kind b) (spot_of b s parent) _ (spot_fit b s parent) (λ spot stands.
-    fit_then (AreSet b.chosen) (IsShape b.kind b) (set_options (scope_of b s) unset (drop 3 s.items)) _
+    fit_then (IsPosition b) (IsDraft b.kind b) (spot_of b s parent) _ (spot_fit b s parent) (λ spot stands.
+    fit_then (AreSet b.chosen) (IsDraft b.kind b) (set_options (scope_of b s) unset (drop 3 s.items)) _
     (options_fit (scope_of b s) unset (drop 3 s.items) h.rate (unset_fit b.chosen)) (λ settings set.
-    fit_whole (IsShape b.kind b) s.fault _
-    (fit_then (IsRated b.kind b spot settings) (IsShape b.kind b) (rate_at_end b.kind b s spot settings) _
+    fit_whole (IsDraft b.kind b) s.fault _
+    (fit_then (IsRated b.kind b spot settings) (IsDraft b.kind b) (rate_at_end b.kind b s spot settings) _
     (end_fit b.kind b s spot settings h.rate stands set) (λ rate is. is))))
 
 -- the class
-new_fit : (kind : Kind) (b : Begun) (name : List ℕ) (shape : Shape) → IsName name → is_some (class_number name b.classes) ≡ false → length b.classes < 256
-    → IsShape kind b shape → IsNew kind b (branch_of kind name shape)
+new_fit : (kind : Kind) (b : Begun) (name : List ℕ) (shape : ClassDraft) → IsName name → is_some (class_number name b.classes) ≡ false → length b.classes < 256
+    → IsDraft kind b shape → IsNewName kind b (branch_of kind name shape)
 new_fit Hfsc b name shape named new room h = search rules
 new_fit Cbq b name shape named new room h = search rules
 
-branch_fit : (b : Begun) (kind : Kind) (s : Statement) → IsBegun b → AreSound s.items → IfOk (read_branch b kind s) (IsNew b.kind b)
+branch_fit : (b : Begun) (kind : Kind) (s : Statement) → IsBegun b → AreSound s.items → IfOk (read_branch b kind s) (IsNewName b.kind b)
 branch_fit b kind s h sound =
-    fit_refuse (IsNew b.kind b) (not (same_kind kind b.kind)) _ _ (λ same.
-    fit_some (IsNew b.kind b) (name_at s.items 1) _ _ (λ name named.
-    fit_refuse (IsNew b.kind b) (is_full b) _ _ (λ room.
-    let With : Shape → Type 0 = λ shape. IsNew b.kind b (branch_of b.kind name shape) in
-    fit_then With (IsNew b.kind b) (shape_of b s name) _
+    fit_refuse (IsNewName b.kind b) (not (same_kind kind b.kind)) _ _ (λ same.
+    fit_some (IsNewName b.kind b) (name_at s.items 1) _ _ (λ name named.
+    fit_refuse (IsNewName b.kind b) (is_full b) _ _ (λ room.
+    let With : ClassDraft → Type 0 = λ shape. IsNewName b.kind b (branch_of b.kind name shape) in
+    fit_then With (IsNewName b.kind b) (shape_of b s name) _
     (fit_refuse With (is_some (class_number name b.classes)) _ _ (λ free.
     fit_some With (name_at s.items 2) _ _ (λ parent there.
-    IfOk-weaker (shape_below b s parent) (IsShape b.kind b) With (λ shape is.
+    IfOk-weaker (shape_below b s parent) (IsDraft b.kind b) With (λ shape is.
     new_fit b.kind b name shape (name_fit s.items 1 name sound named) free
     (leb-false 256 (length b.classes) room) is) (shape_fit b s parent h))))
     (λ shape is. is))))
@@ -197,11 +197,11 @@ begun_set before i b c h at fit same_name = record {
 }
 
 -- an interface statement
-word_rate : (rate : ℕ) (says : What) (items : List Item) → IsWithin 1000 most_rate rate → IsWithin 1000 most_rate (rate_by_word rate says items)
+word_rate : (rate : ℕ) (says : What) (items : List Item) → IsBetween 1000 most_rate rate → IsBetween 1000 most_rate (rate_by_word rate says items)
 word_rate rate (what.Key key.Bandwidth) items h = number_or 1000 most_rate items rate h
 word_rate rate _ items h = h
 
-options_rate : (rate : ℕ) (items : List Item) → IsWithin 1000 most_rate rate → IsWithin 1000 most_rate (rate_by_options rate items)
+options_rate : (rate : ℕ) (items : List Item) → IsBetween 1000 most_rate rate → IsBetween 1000 most_rate (rate_by_options rate items)
 options_rate rate [] h = h
 options_rate rate (item ∷ items) h = options_rate (rate_by_word rate item.what items) items (word_rate rate item.what items h)
 
@@ -233,7 +233,7 @@ class_fit before kind s h sound =
     fit_some AreBegun (name_at s.items 0) _ _ (λ name named.
     fit_some AreBegun (interface_number name before) _ _ (λ i number.
     fit_some AreBegun (slice_get before i) _ _ (λ b at.
-    fit_then (IsNew b.kind b) AreBegun (read_branch b kind s) _ (branch_fit b kind s (h.each i b at) sound) (λ c new.
+    fit_then (IsNewName b.kind b) AreBegun (read_branch b kind s) _ (branch_fit b kind s (h.each i b at) sound) (λ c new.
     begun_set before i b (add_class b c) h at (class_added b c (h.each i b at) new) refl))))
 
 to_filter_fit : (before : List Begun) (s : Statement) → AreBegun before → AreSound s.items → IfOk (read_filter before s) AreBegun

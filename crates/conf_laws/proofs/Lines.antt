@@ -6,7 +6,7 @@ use Rattle.std.proofs.lemmas.List.{append_assoc, append-nil, length-append, leng
 use Rattle.std.proofs.lemmas.List.Sums.{sum_by-cons}
 use Rattle.std.specs.List.{AllByRecursion as Every}
 use Rattle.line_text.proofs.Splitting.{ArePlain, words_of-blank, words_of-end}
-use Rattle.line_text.specs.Lines.{joint, joined, line_len}
+use Rattle.line_text.specs.Lines.{continuation_len, joined, line_len}
 use Rattle.line_text.specs.Names.{is_name}
 use Rattle.line_text.specs.Words.{is_blank, words_of}
 use Rattle.conf_lines.specs.Grammar.{start}
@@ -104,7 +104,7 @@ behind-stays (word ∷ words) are = (
 -- its length, its joined bytes and its line feeds
 bytes_read : (text rest : List ℕ) → Every StaysOn text
     → (line_len (text ++ 10 ∷ rest) ≡ length text + 1) × (joined (text ++ 10 ∷ []) ≡ text) × (line_feeds (text ++ 10 ∷ []) ≡ 1)
-unfolding joint
+unfolding continuation_len
 bytes_read [] rest on = (omega arith, refl, refl)
 bytes_read (byte ∷ text) rest on =
     let (len, bytes, feeds) = bytes_read text rest on.1 in

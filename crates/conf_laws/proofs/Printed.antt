@@ -20,7 +20,7 @@ use Rattle.conf_lines.specs.Laws.{AreBytes}
 use Rattle.conf_lines.specs.Slots.{is_text, are_plain, rate_in, whole_in, name_in, protocol_in, mask_in, address_in, address6_in}
 use Rattle.conf_lines.specs.declared.item.What.TheVariants.{Name, Ip4, Ip6}
 use Rattle.conf_tree.specs.Printed.{ip4_word, ip6_word, hex, group, groups}
-use Rattle.conf_laws.specs.Fit.{IsName, IsWithin}
+use Rattle.conf_laws.specs.Fit.{IsName, IsBetween}
 use Rattle.conf_laws.proofs.Bytes.{OfName, IsWord, IsNot, Lacks, cut-none, every-append, behind, beside, cut-front}
 
 -- a word that is not a given text
@@ -105,12 +105,12 @@ is_plain (byte ∷ word) h = rw (plain_byte byte h.0, is_plain word h.1) refl
 decimal_plain : (n : ℕ) → n < 2 ^ 64 → are_plain (decimal n) ≡ true
 decimal_plain n small = is_plain (decimal n) (decimal_word 20 n (omega arith) (omega arith) small).bytes
 
-pub whole_is_read : (low high n : ℕ) → IsWithin low high n → high < 2 ^ 64 → whole_in low high (decimal n) ≡ Ok n
+pub whole_is_read : (low high n : ℕ) → IsBetween low high n → high < 2 ^ 64 → whole_in low high (decimal n) ≡ Ok n
 unfolding whole_in
 whole_is_read low high n is small =
     rw (decimal_plain n (omega arith), decimal_whole n (omega arith), le-leb low n is.0, le-leb n high is.1) refl
 
-pub rate_is_read : (low high n : ℕ) → IsWithin low high n → high < 2 ^ 64 → rate_in low high (decimal n) ≡ Ok n
+pub rate_is_read : (low high n : ℕ) → IsBetween low high n → high < 2 ^ 64 → rate_in low high (decimal n) ≡ Ok n
 unfolding rate_in
 rate_is_read low high n is small =
     rw (decimal_plain n (omega arith), decimal_rate n (omega arith), le-leb low n is.0, le-leb n high is.1) refl

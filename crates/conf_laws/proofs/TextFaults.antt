@@ -9,7 +9,7 @@ use Rattle.std.proofs.lemmas.Bool.{and_parts, cond_both, cases_lt}
 use Rattle.std.proofs.lemmas.List.Sums.{sum_by-cons}
 use Rattle.std.proofs.lemmas.List.{length-append, length-drop, take-append-le, drop-append-le, take_all, drop_all}
 use Rattle.std.proofs.lemmas.Result.{IfErr-at_err}
-use Rattle.line_text.specs.Lines.{joint, line_len_after, through_line_feed, joined_after, joined, ends, line_len, longest_line}
+use Rattle.line_text.specs.Lines.{continuation_len, line_len_after, through_line_feed, joined_after, joined, ends, line_len, longest_line}
 use Rattle.line_text.specs.Words.{is_blank, begins_word, with_first, words_of}
 use Rattle.conf_lines.specs.declared.fault.ConfKind.TheVariants.{TooLong}
 use Rattle.conf_lines.specs.declared.fault.ConfPlace.{ConfPlace}
@@ -43,12 +43,12 @@ stable-drop (suc n) [] h = tt
 stable-drop (suc n) (byte ∷ text) h = stable-drop n text h.1
 
 -- a continuation at its front is one whatever follows
-joint-same : (text more : List ℕ) → ends_word text ≡ true → joint (text ++ more) ≡ joint text
-unfolding joint
-joint-same [] more h = cc
-joint-same (byte ∷ []) more h = let no_slash : eqb byte 92 ≡ false = grind (arith, nat_tests) in rw no_slash refl
-joint-same (byte ∷ next ∷ []) more h = grind (arith, nat_tests)
-joint-same (byte ∷ next ∷ third ∷ text) more h = refl
+continuation_len-same : (text more : List ℕ) → ends_word text ≡ true → continuation_len (text ++ more) ≡ continuation_len text
+unfolding continuation_len
+continuation_len-same [] more h = cc
+continuation_len-same (byte ∷ []) more h = let no_slash : eqb byte 92 ≡ false = grind (arith, nat_tests) in rw no_slash refl
+continuation_len-same (byte ∷ next ∷ []) more h = grind (arith, nat_tests)
+continuation_len-same (byte ∷ next ∷ third ∷ text) more h = refl
 
 -- THE LINE at its front: as much of it as stands in the text
 comment_front : (text more : List ℕ) → min (length text) (through_line_feed (text ++ more)) ≡ through_line_feed text
@@ -60,8 +60,8 @@ line_front inside [] more h = omega arith
 line_front (suc inside) (byte ∷ text) more h = let front = line_front inside text more h.1 in omega arith
 line_front zero (byte ∷ text) more h =
     let comment = comment_front text more in
-    let front = line_front (joint (byte ∷ text) - 1) text more h.1 in
-    rw (joint-same (byte ∷ text) more h.0) (grind (arith, nat_tests))
+    let front = line_front (continuation_len (byte ∷ text) - 1) text more h.1 in
+    rw (continuation_len-same (byte ∷ text) more h.0) (grind (arith, nat_tests))
 
 -- a line that ends before its text has a line feed
 abbrev HasFeed : List ℕ → ℕ → Type 0
@@ -87,7 +87,7 @@ line_feed (suc inside) (byte ∷ text) = feed_behind byte text (line_len_after i
 line_feed zero (byte ∷ text) =
     cond_both (eqb byte 10) _ _ (HasFeed (byte ∷ text)) (feed_here byte text) (λ e.
     cond_both (eqb byte 35) _ _ (HasFeed (byte ∷ text)) (λ e. feed_behind byte text (through_line_feed text) (comment_feed text)) (λ e.
-    feed_behind byte text (line_len_after (joint (byte ∷ text) - 1) text) (line_feed (joint (byte ∷ text) - 1) text)))
+    feed_behind byte text (line_len_after (continuation_len (byte ∷ text) - 1) text) (line_feed (continuation_len (byte ∷ text) - 1) text)))
 
 -- THE WORDS of the line at its front, and more of them
 with_first-more : (byte : ℕ) (line : List ℕ) (more : List (List ℕ)) → begins_word line ≡ true
@@ -108,31 +108,31 @@ words_by byte line other more false true b l o e = rw (b, l, o) (ap (with_first 
 
 begins-same : (byte : ℕ) (text more : List ℕ) → ends_word (byte ∷ text) ≡ true
     → begins_word (joined (byte ∷ (text ++ more))) ≡ begins_word (joined (byte ∷ text))
-begins-same byte text more h = rw (joint-same (byte ∷ text) more h) (grind (arith, nat_tests))
+begins-same byte text more h = rw (continuation_len-same (byte ∷ text) more h) (grind (arith, nat_tests))
 
 abbrev HasMore : ℕ → List ℕ → List ℕ → Type 0
 HasMore inside text more = (extra : List (List ℕ)) × (words_of (joined_after inside (text ++ more)) ≡ words_of (joined_after inside text) ++ extra)
 
-front_by : (byte : ℕ) (text more : List ℕ) (stop joins : Bool) → ends byte ≡ stop → nat_lt 0 (joint (byte ∷ text)) ≡ joins → Stable (byte ∷ text)
-    → HasMore (joint (byte ∷ text) - 1) text more → HasMore zero text more → HasMore zero (byte ∷ text) more
+front_by : (byte : ℕ) (text more : List ℕ) (stop joins : Bool) → ends byte ≡ stop → nat_lt 0 (continuation_len (byte ∷ text)) ≡ joins → Stable (byte ∷ text)
+    → HasMore (continuation_len (byte ∷ text) - 1) text more → HasMore zero text more → HasMore zero (byte ∷ text) more
 front_by byte text more true joins e j h f g = ([], rw e refl)
-front_by byte text more false true e j h f g = (f.0, rw (e, joint-same (byte ∷ text) more h.0, j) f.1)
+front_by byte text more false true e j h f g = (f.0, rw (e, continuation_len-same (byte ∷ text) more h.0, j) f.1)
 front_by byte [] more false false e j h f g =
     let ends = h.0 in
     let blank : is_blank byte ≡ true = grind (arith, nat_tests) in
-    (g.0, rw (e, joint-same (byte ∷ []) more h.0, j, blank) g.1)
+    (g.0, rw (e, continuation_len-same (byte ∷ []) more h.0, j, blank) g.1)
 front_by byte (next ∷ text) more false false e j h f g =
     let line = joined (next ∷ text) in
     let begins = begins-same next text more h.1.0 in
     let words = words_by byte line (joined (next ∷ (text ++ more))) g.0 (is_blank byte) (begins_word line) refl refl begins g.1 in
-    (g.0, rw (e, joint-same (byte ∷ next ∷ text) more h.0, j) words)
+    (g.0, rw (e, continuation_len-same (byte ∷ next ∷ text) more h.0, j) words)
 
 words_front : (inside : ℕ) (text more : List ℕ) → Stable text → HasMore inside text more
 words_front inside [] more h = (words_of (joined_after inside more), refl)
 words_front (suc inside) (byte ∷ text) more h = words_front inside text more h.1
 words_front zero (byte ∷ text) more h =
-    let inside = joint (byte ∷ text) - 1 in
-    front_by byte text more (ends byte) (nat_lt 0 (joint (byte ∷ text))) refl refl h (words_front inside text more h.1) (words_front zero text more h.1)
+    let inside = continuation_len (byte ∷ text) - 1 in
+    front_by byte text more (ends byte) (nat_lt 0 (continuation_len (byte ∷ text))) refl refl h (words_front inside text more h.1) (words_front zero text more h.1)
 
 -- THE STATEMENT of a line
 record OfLine (n : ℕ) (words : List (List ℕ)) (s : Statement) : Type 0 where

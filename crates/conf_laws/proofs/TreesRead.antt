@@ -33,7 +33,7 @@ use Rattle.conf_laws.specs.Fit.{HasParent, IsClass, IsOfKind, IsTree, AreAddress
 use Rattle.conf_laws.specs.Statements.{numbered, class_statement, filter_statement, conditioner_statement}
 use Rattle.conf_laws.proofs.ClassOptions.{settings_of, options_read, class_is}
 use Rattle.conf_laws.proofs.ListPlaces.{get_push, get_set, element, names_differ, name_is_new, name_is_at}
-use Rattle.conf_laws.proofs.Types.{Branch, Conditioner, Shape}
+use Rattle.conf_laws.proofs.Types.{Branch, Conditioner, ClassDraft}
 use Rattle.conf_laws.proofs.CurvesRead.{within_is}
 
 -- LISTS THAT GROW AND CHANGE: what holds of the old places and of the new one holds of all
@@ -112,7 +112,7 @@ same_level all k a b (below j p up c at e on) (below j' q top d there n over) =
     ap (λ l. l + 1) (same_level all p up top on (subst (λ x. IsOnLevel all x top) same over))
 
 -- it stands on a level, at a spot, behind classes of which its parent is now named
-record Stands (i : Interface) (b : Begun) (s : Statement) (k : ℕ) (parent : Option ℕ) : Type 0 where
+record ClassStands (i : Interface) (b : Begun) (s : Statement) (k : ℕ) (parent : Option ℕ) : Type 0 where
   level : ℕ
   on : IsOnLevel i.classes k level
   spot : spot_of (part_of i b) s (parent_word i.classes parent) ≡ Ok (record { parent = parent; level = level })
@@ -121,7 +121,7 @@ record Stands (i : Interface) (b : Begun) (s : Statement) (k : ℕ) (parent : Op
 
 stands : (i : Interface) (tree : IsTree i.kind i.classes i.filters) (number k : ℕ) (b : Begun) (s : Statement) (c : Class) (parent : Option ℕ)
     → HasRead i number k 0 0 b → slice_get i.classes k ≡ Some c → IsClass i.kind i.classes k c → c.parent ≡ parent
-    → HasParent i.kind i.classes k parent → Stands i b s k parent
+    → HasParent i.kind i.classes k parent → ClassStands i b s k parent
 stands i tree number k b s c None r at is e h =
     record { level = 1; on = root k c at e; spot = rw (r.rooted h) refl; count = refl; class = r.class }
 stands i tree number k b s c (Some p) r at is e (early, q, q_at, may) =
@@ -176,7 +176,7 @@ rate_is : (kind : Kind) (b : Begun) (s : Statement) (c : Class) (level : ℕ) �
 rate_is Hfsc b s c level h = rw (shared c.parent c.share h.shared) refl
 rate_is Cbq b s c level h = refl
 
-abbrev shape : Kind → Class → ℕ → Shape
+abbrev shape : Kind → Class → ℕ → ClassDraft
 shape kind c level = record { spot = record { parent = c.parent; level = level }; settings = settings_of kind c; rate = rate_of_kind kind c.rate }
 
 branch_is : (kind : Kind) (c : Class) (level : ℕ) → IsOfKind kind c → branch c level ≡ branch_of kind c.name (shape kind c level)

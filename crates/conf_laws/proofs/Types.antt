@@ -11,18 +11,18 @@ abbrev takes : {A B : Type 0} → (A → B) → Type 0
 takes {A} f = A
 
 -- what the options of a class are read under, and what they set
-abbrev pub Scope : Type 0
-Scope = takes set_options
+abbrev pub ReadContext : Type 0
+ReadContext = takes set_options
 
 abbrev pub Settings : Type 0
 Settings = takes (of_kind Hfsc)
 
 -- where a class stands, its shape, a class as far as the statements say, and what a conditioner gives it
-abbrev pub Spot : Type 0
-Spot = takes (rate_given 0)
+abbrev pub TreePosition : Type 0
+TreePosition = takes (rate_given 0)
 
-abbrev pub Shape : Type 0
-Shape = takes (branch_of Hfsc [])
+abbrev pub ClassDraft : Type 0
+ClassDraft = takes (branch_of Hfsc [])
 
 abbrev pub Branch : Type 0
 Branch = takes class_name

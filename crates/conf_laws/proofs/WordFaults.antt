@@ -36,23 +36,23 @@ use Rattle.conf_tree.specs.Tree.{Begun, interface_number, class_number}
 use Rattle.conf_tree.proofs.StandingFaults.{read_all, then_read, reading-append, at_end_or_read}
 use Rattle.conf_laws.specs.Laws.{line_of_words}
 use Rattle.conf_laws.proofs.InTurn.{so_option, so_some, so_refuse, so_both, so_next, so_front, so_then, so_own, so_last}
-use Rattle.conf_laws.proofs.Types.{Settings, Scope, Spot}
+use Rattle.conf_laws.proofs.Types.{Settings, ReadContext, TreePosition}
 
 -- `Q` holds of each fault at the word of an item
 abbrev AtItem : (ConfPlace → Type 0) → ℕ → Item → Type 0
 AtItem Q line item = (kind : ConfKind) → Q (fault_at line item.word kind)
 
 -- THE OPTIONS of a class: what a word makes of `is_default`, or its fault, which depends on no other setting
-abbrev test : Scope → Bool → ℕ → What → ℕ → Option ℕ → Result Bool ConfPlace
+abbrev test : ReadContext → Bool → ℕ → What → ℕ → Option ℕ → Result Bool ConfPlace
 test scope d word (what.Key key.Default) next n = cond (scope.chosen || d) (Err (fault_at scope.line word TwoDefaults)) (Ok true)
 test scope d word (what.Key key.Pbandwidth) next (Some n) =
     cond (nat_le 1000 (percent scope.rate n) && nat_le (percent scope.rate n) most_rate) (Ok d) (Err (fault_at scope.line next RateRange))
 test scope d word _ next n = Ok d
 
-abbrev tested : Scope → Bool → ℕ → What → List Item → Result Bool ConfPlace
+abbrev tested : ReadContext → Bool → ℕ → What → List Item → Result Bool ConfPlace
 tested scope d word says items = test scope d word says (word_at items 0) (number_behind key.Pbandwidth items)
 
-abbrev tests : Scope → Bool → List Item → Result Bool ConfPlace
+abbrev tests : ReadContext → Bool → List Item → Result Bool ConfPlace
 tests scope d [] = Ok d
 tests scope d (item ∷ items) = tested scope d item.word item.what items >>= (λ e. tests scope e items)
 
@@ -63,7 +63,7 @@ default_cond : (b : Bool) (x y : Result Settings ConfPlace) → default_of (cond
 default_cond true x y = refl
 default_cond false x y = refl
 
-word_tested : (scope : Scope) (s : Settings) (word : ℕ) (says : What) (items : List Item)
+word_tested : (scope : ReadContext) (s : Settings) (word : ℕ) (says : What) (items : List Item)
     → default_of (set_by_word scope s word says items) ≡ tested scope s.is_default word says items
 word_tested scope s word (what.Key key.Default) items = default_cond (scope.chosen || s.is_default) _ _
 word_tested scope s word (what.Key key.Pbandwidth) items =
@@ -72,7 +72,7 @@ word_tested scope s word (what.Key key.Pbandwidth) items =
     [ None ↦ refl | Some n ↦ default_cond (nat_le 1000 (percent scope.rate n) && nat_le (percent scope.rate n) most_rate) _ _ ]
 word_tested scope s word _ items = refl
 
-options_tested : (scope : Scope) (s : Settings) (items : List Item) → default_of (set_options scope s items) ≡ tests scope s.is_default items
+options_tested : (scope : ReadContext) (s : Settings) (items : List Item) → default_of (set_options scope s items) ≡ tests scope s.is_default items
 options_tested scope s [] = refl
 options_tested scope s (item ∷ items) =
     elim (set_by_word scope s item.word item.what items) as
@@ -81,7 +81,7 @@ options_tested scope s (item ∷ items) =
     ∙ ap (λ r. r >>= (λ d. tests scope d items)) (word_tested scope s item.word item.what items)
 
 -- `Q` holds of the first fault of options if it holds of each at their words
-module _ (Q : ConfPlace → Type 0) (scope : Scope) where
+module _ (Q : ConfPlace → Type 0) (scope : ReadContext) where
   word_so : (d : Bool) (word : ℕ) (says : What) (left right : List Item) → All (AtItem Q scope.line) left
       → ((kind : ConfKind) → Q (fault_at scope.line word kind)) ⊎ IfErr (tested scope d word says right) Q → IfErr (tested scope d word says left) Q
   word_so d word (what.Key key.Default) left right h link =
@@ -169,7 +169,7 @@ module _ {Q : ConfPlace → Type 0} {first : ℕ} {s t : Statement} (two : Besid
       (λ e. own_so)
 
 -- A CLASS: below its parent, from its parent on, from its name on, and all of it
-rate_so : (Q : ConfPlace → Type 0) (kind : Kind) (b : Begun) (s : Statement) (spot : Spot) (settings : Settings)
+rate_so : (Q : ConfPlace → Type 0) (kind : Kind) (b : Begun) (s : Statement) (spot : TreePosition) (settings : Settings)
     → ((kind : ConfKind) → Q (at_word s s.end kind)) → IfErr (rate_at_end kind b s spot settings) Q
 rate_so Q Hfsc b s spot settings end =
     let t = is_some spot.parent && is_none settings.share in

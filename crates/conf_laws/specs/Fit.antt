@@ -20,14 +20,14 @@ use Rattle.conf_tree.specs.Whole.{implied_classes}
 abbrev pub IsName : List ℕ → Type 0
 IsName name = is_name name ≡ true
 
-abbrev pub IsWithin : ℕ → ℕ → ℕ → Type 0
-IsWithin low high n = (low ≤ n) × (n ≤ high)
+abbrev pub IsBetween : ℕ → ℕ → ℕ → Type 0
+IsBetween low high n = (low ≤ n) × (n ≤ high)
 
 -- A curve that may be set: slopes of at most 10^12, the first at least `low` and the second at least `least`, and not 0 < m1 < m2; a
 -- bend in whole milliseconds, at most 10^6 of them. It has a bend where its slopes differ, and there alone.
 pub record IsCurve (low least : ℕ) (s : Curve) : Type 0 where
-  pub first : IsWithin low most_rate s.m1
-  pub second : IsWithin least most_rate s.m2
+  pub first : IsBetween low most_rate s.m1
+  pub second : IsBetween least most_rate s.m2
   pub bend : (d : ℕ) × (d ≤ 1000000) × (s.d ≡ d * 10 ^ 6)
   pub upward : (s.m1 ≡ 0) ⊎ (s.m2 ≤ s.m1)
   pub one_slope : s.d ≡ 0 → s.m1 ≡ s.m2
@@ -67,10 +67,10 @@ pub record IsCbqClass (c : Class) : Type 0 where
   pub real : c.real ≡ None
   pub share : c.share ≡ None
   pub upper : c.upper ≡ None
-  pub rate : IsWithin 1000 most_rate c.rate
+  pub rate : IsBetween 1000 most_rate c.rate
   pub priority : c.priority ≤ 7
-  pub maxburst : IsWithin 1 1000 c.maxburst
-  pub packetsize : IsWithin 1 262144 c.packetsize
+  pub maxburst : IsBetween 1 1000 c.maxburst
+  pub packetsize : IsBetween 1 262144 c.packetsize
 
 abbrev pub IsOfKind : Kind → Class → Type 0
 IsOfKind Hfsc c = IsHfscClass c
@@ -83,7 +83,7 @@ pub record IsClass (kind : Kind) (classes : List Class) (k : ℕ) (c : Class) : 
   pub level : ℕ
   pub on : IsOnLevel classes k level
   pub eight : level ≤ 8
-  pub limit : IsWithin 1 10000 c.limit
+  pub limit : IsBetween 1 10000 c.limit
   pub own : IsOfKind kind c
   pub meter : IsMeterIfAny c.meter
 
@@ -140,7 +140,7 @@ pub record IsImplied (i : Interface) : Type 0 where
 
 pub record IsInterface (i : Interface) : Type 0 where
   pub name : IsName i.name
-  pub rate : IsWithin 1000 most_rate i.rate
+  pub rate : IsBetween 1000 most_rate i.rate
   pub classes : length i.classes ≤ 256
   pub filters : length i.filters ≤ 1024
   pub tree : IsTree i.kind i.classes i.filters

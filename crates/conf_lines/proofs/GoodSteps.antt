@@ -18,9 +18,9 @@ use Rattle.conf_lines.specs.declared.part.Part.TheVariants.{Must, Either, May, B
 use Rattle.conf_lines.specs.declared.part.Slot.{Slot}
 use Rattle.conf_lines.specs.declared.part.Slot.TheVariants as slot
 use Rattle.conf_lines.specs.declared.statement.Form.{Form}
-use Rattle.conf_lines.specs.Grammar.{Place, Step, stands_by, says, leads, reads, as_read, at_parent, filled, behind_option, took, chosen, at_part, is_convex, at_bend, at_slope, at_last_slope, at_pir, unsettled, step_from, step, end_from, end, start}
+use Rattle.conf_lines.specs.Grammar.{Place, Step, stands_by, says, leads, reads, as_read, at_parent, filled, behind_option, took, chosen, at_part, is_convex, at_bend, at_slope, at_last_slope, at_pir, uncompleted, step_from, step, end_from, end, start}
 use Rattle.conf_lines.specs.Laws.{says_at, HasNumber, HasCurve, HasMask, HasSingle, HasTwo, HasSlots, IsSound, IsWhole, slot_count, Fills, Ends, Has, AreSound, AreAllSound, AreWhole, HasParts, AreAllWhole}
-use Rattle.conf_lines.specs.Options.{most_rate, most_bend, most_port, most_burst, most_af, word_of_key, slots_of, settles, one_of, options_of}
+use Rattle.conf_lines.specs.Options.{most_rate, most_bend, most_port, most_burst, most_af, word_of_key, slots_of, completes, one_of, options_of}
 use Rattle.conf_lines.specs.Parts.{reach, may_end}
 use Rattle.conf_lines.specs.Slots.{is_text, rate_in, whole_in, skipped_in, name_in, protocol_in, mask_in, address_in, address6_in}
 use Rattle.conf_lines.specs.declared.statement.Form.TheVariants as form
@@ -110,7 +110,7 @@ unfolding at_parent
 filled_goes slot.Name place word owed k =
     reads_go owed place (name_in word) (name_says (Good owed place) word (λ e. (e, λ items. tt, λ at items. k at _ items tt)))
 filled_goes slot.Parent place word owed k =
-    let rooted : Place = record place { settled = place.settled || is_text (codes "NULL") word } in
+    let rooted : Place = record place { completed = place.completed || is_text (codes "NULL") word } in
     reads_go owed rooted (name_in word) (name_says (Good owed rooted) word (λ e. (e, λ items. tt, λ at items. k at _ items tt)))
 filled_goes slot.Address place word owed k =
     reads_go owed place (address_in word)
@@ -142,7 +142,7 @@ took_goes : (owed : List Item → Type 0) (key : Key) (place : Place)
     → ((at : ℕ) (items : List Item) → HasSlots (slots_of key) items × Has place.form true place.parts (drop (slot_count (slots_of key)) items)
     → owed (record { word = at; what = what.Key key } ∷ items)) → GoesIfOk place.form owed (took key place)
 took_goes owed key place owes =
-    let after : Place = record place { next = behind_option (slots_of key); stands = true; settled = place.settled || settles key } in
+    let after : Place = record place { next = behind_option (slots_of key); stands = true; completed = place.completed || completes key } in
     record {
       of = refl;
       formed = option_formed (slots_of key);
@@ -355,7 +355,7 @@ no_fault false o e = cc
 
 end_at : (at : Next) (place : Place) → end_from at place ≡ None → Owes at place []
 end_at next.Part place e =
-    nothing_left place.form place.stands place.parts (no_fault (may_end place.parts) (cond place.settled None (Some (unsettled place.form))) e)
+    nothing_left place.form place.stands place.parts (no_fault (may_end place.parts) (cond place.completed None (Some (uncompleted place.form))) e)
 end_at _ place e = cc
 
 pub end_owes : (place : Place) → end place ≡ None → Owes place.next place []

@@ -10,11 +10,11 @@ use Rattle.conf_lines.specs.Parts.{parts_of}
 
 -- a place by its next word and the parts that may still come
 abbrev spot : Next → List Part → Form → Bool → Place
-spot next parts form settled = record { form = form; next = next; parts = parts; stands = true; settled = settled }
+spot next parts form completed = record { form = form; next = next; parts = parts; stands = true; completed = completed }
 
 -- where an option may stand
 abbrev pub at_option : Form → Bool → Place
-at_option form settled = spot next.Part [] form settled
+at_option form completed = spot next.Part [] form completed
 
 -- hfsc or cbq behind class
 abbrev pub at_discipline_word : Place

@@ -1,7 +1,7 @@
 -- One logical line of a text on.
 use Rattle.std.proofs.Common.{◌≡◌, ℕ, zero, suc, ◌+◌, ◌-◌, ◌<◌, ◌≤◌, ◌++◌, ◌==◌, Bool, true, false, cond, List, [], ◌∷◌, Option, Some, None, length, take, drop, refl, ap, ◌∙◌, arith}
 use Rattle.std.proofs.lemmas.List.{append_assoc, append-nil, length-drop, drop-drop}
-use Rattle.line_text.specs.Lines.{line_len, line_len_after, through_line_feed, joint}
+use Rattle.line_text.specs.Lines.{line_len, line_len_after, through_line_feed, continuation_len}
 use Rattle.conf_lines.specs.declared.statement.Statement.{Statement}
 use Rattle.conf_lines.specs.Texts.{statement_of, statements_in, line_feeds, before}
 
@@ -11,7 +11,7 @@ some_by false true m n = omega arith
 some_by false false m n = omega arith
 
 pub line_len-some : (byte : ℕ) (text : List ℕ) → 0 < line_len (byte ∷ text)
-line_len-some byte text = some_by (byte == 10) (byte == 35) (through_line_feed text) (line_len_after (joint (byte ∷ text) - 1) text)
+line_len-some byte text = some_by (byte == 10) (byte == 35) (through_line_feed text) (line_len_after (continuation_len (byte ∷ text) - 1) text)
 
 -- as many turns as bytes are enough
 turns : (m n line : ℕ) (text : List ℕ) → length text ≤ m → length text ≤ n → statements_in m line text ≡ statements_in n line text

@@ -19,7 +19,7 @@ use Rattle.conf_lines.specs.declared.part.Slot.{Slot}
 use Rattle.conf_lines.specs.declared.part.Slot.TheVariants as slot
 use Rattle.conf_lines.specs.declared.statement.Form.{Form}
 use Rattle.conf_lines.specs.declared.statement.Form.TheVariants as form
-use Rattle.conf_lines.specs.Options.{most_rate, most_bend, most_port, most_burst, most_af, slots_of, settles, one_of, option_of}
+use Rattle.conf_lines.specs.Options.{most_rate, most_bend, most_port, most_burst, most_af, slots_of, completes, one_of, option_of}
 use Rattle.conf_lines.specs.Parts.{parts_of, reach, may_end}
 use Rattle.conf_lines.specs.Slots.{is_text, are_plain, rate_in, whole_in, skipped_in, name_in, protocol_in, mask_in, address_in, address6_in}
 use Rattle.conf_lines.specs.declared.fault.ConfKind.TheVariants.{UnknownWord, MissingWord, BadByte, ConvexFirst, NoShare}
@@ -31,7 +31,7 @@ pub record Place : Type 0 where
   pub next : Next
   pub parts : List Part
   pub stands : Bool
-  pub settled : Bool
+  pub completed : Bool
 
 -- the item of a word, if it says more than which statement it is, and the place behind it
 pub record Step : Type 0 where
@@ -72,7 +72,7 @@ has_parts_alone _ = false
 
 abbrev pub begins : Form → Next → Result Step ConfKind
 begins form next =
-    Ok (record { what = None; after = record { form = form; next = next; parts = parts_of form; stands = true; settled = has_parts_alone form } })
+    Ok (record { what = None; after = record { form = form; next = next; parts = parts_of form; stands = true; completed = has_parts_alone form } })
 
 -- the first word: interface, class, filter, filter6 or conditioner
 unfoldable pub at_statement : List ℕ → Result Step ConfKind
@@ -93,7 +93,7 @@ at_discipline word =
 
 -- a class with the parent NULL is the root, which has what it must have
 unfoldable pub at_parent : Place → List ℕ → Result Step ConfKind
-at_parent place word = reads (name_in word) (record place { settled = place.settled || is_text (codes "NULL") word })
+at_parent place word = reads (name_in word) (record place { completed = place.completed || is_text (codes "NULL") word })
 
 -- a word that must be there
 abbrev pub filled : Slot → Place → List ℕ → Result Step ConfKind
@@ -117,7 +117,7 @@ behind_option slots.Single = next.Cir
 behind_option slots.Two = next.Pir
 
 abbrev pub took : Key → Place → Result Step ConfKind
-took key place = says (what.Key key) (record place { settled = place.settled || settles key }) (behind_option (slots_of key))
+took key place = says (what.Key key) (record place { completed = place.completed || completes key }) (behind_option (slots_of key))
 
 -- an option, or a word that the statement does not have
 abbrev pub chosen : Place → List ℕ → Option Key → Result Step ConfKind
@@ -177,12 +177,12 @@ unfoldable pub step : Place → List ℕ → Result Step ConfKind
 step place word = step_from place.next place word
 
 -- the fault of a statement that ends at a place, if it may not end there
-abbrev pub unsettled : Form → ConfKind
-unsettled form.ClassHfsc = NoShare
-unsettled _ = MissingWord
+abbrev pub uncompleted : Form → ConfKind
+uncompleted form.ClassHfsc = NoShare
+uncompleted _ = MissingWord
 
 abbrev pub end_from : Next → Place → Option ConfKind
-end_from next.Part place = if may_end place.parts then if place.settled then None else Some (unsettled place.form) else Some MissingWord
+end_from next.Part place = if may_end place.parts then if place.completed then None else Some (uncompleted place.form) else Some MissingWord
 end_from _ place = Some MissingWord
 
 unfoldable pub end : Place → Option ConfKind
@@ -190,11 +190,11 @@ end place = end_from place.next place
 
 -- the place before the first word
 abbrev pub start : Place
-start = record { form = form.Unread; next = next.Statement; parts = []; stands = true; settled = false }
+start = record { form = form.Unread; next = next.Statement; parts = []; stands = true; completed = false }
 
 -- the code's place, and what it returns: exactly this reading, or `NoMemory`
 abbrev pub seen : code_place.Place → Place
-seen place = record { form = place.form; next = place.next; parts = place.parts.now; stands = place.stands; settled = place.settled }
+seen place = record { form = place.form; next = place.next; parts = place.parts.now; stands = place.stands; completed = place.completed }
 
 abbrev pub Fails : Refusal → Result Step ConfKind → Type 0
 Fails NoMemory read = Unit {0}

@@ -40,10 +40,10 @@ most_af = 4
 pub record Row : Type 0 where
   pub word : List ℕ
   pub slots : Slots
-  pub settles : Bool
+  pub completes : Bool
 
 abbrev pub row : List ℕ → Slots → Bool → Row
-row word slots settles = record { word = word; slots = slots; settles = settles }
+row word slots completes = record { word = word; slots = slots; completes = completes }
 
 -- THE TABLE: RATE and WHOLE with their least and greatest numbers; a curve, RATE WHOLE RATE, with the least of its first and of
 -- its second slope; a meter of one rate, RATE WHOLE WHOLE, and one of two, RATE WHOLE RATE WHOLE
@@ -96,8 +96,8 @@ word_of_key key = (row_of key).word
 abbrev pub slots_of : Key → Slots
 slots_of key = (row_of key).slots
 
-abbrev pub settles : Key → Bool
-settles key = (row_of key).settles
+abbrev pub completes : Key → Bool
+completes key = (row_of key).completes
 
 -- the options of a statement, in any order; a filter and a conditioner have their parts in one order
 abbrev pub class_options : List Key

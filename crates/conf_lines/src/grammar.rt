@@ -53,7 +53,7 @@ pub(crate) struct Place {
     pub(crate) stands: bool,
     /// Whether it has what it must have by its end besides its parts: an interface its discipline, a class that is not the
     /// root its share.
-    pub(crate) settled: bool,
+    pub(crate) completed: bool,
 }
 
 /// The item of a word, if it gives more than which statement it is, and the parser's state after the word.

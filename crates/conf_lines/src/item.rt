@@ -17,14 +17,14 @@ impl Model for Text {
 }
 
 impl Text {
-    /// The text of a string. Takes no memory.
+    /// The text of a string. Does not allocate.
     pub fn of(string: String) -> Text
         ensures { result ≡ string_bytes string }
     {
         Text { string }
     }
 
-    /// Its bytes as a text. Takes no memory.
+    /// Its bytes as a text. Does not allocate.
     pub fn as_str(&self) -> &str
         ensures { result.now ≡ self.now }
     {
@@ -78,14 +78,14 @@ impl Model for Items {
 }
 
 impl Items {
-    /// The items of a vector. Takes no memory.
+    /// The items of a vector. Does not allocate.
     pub fn of(items: Vec<Item>) -> Items
         ensures { result ≡ items.items }
     {
         Items { items }
     }
 
-    /// The items, in order. Takes no memory.
+    /// The items, in order. Does not allocate.
     pub fn as_slice(&self) -> &[Item]
         ensures { result.now ≡ self.now }
     {

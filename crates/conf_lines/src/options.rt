@@ -1,6 +1,6 @@
 //! The options of the statements, as one table.
 ghost use Rattle.std.specs.Prelude.{◌≡◌, ◌∷◌, []};
-ghost use Rattle.conf_lines.specs.Options.{most_rate, most_bend, most_ruleno, most_port, most_protocol, most_tos, most_burst, most_af, word_of_key, slots_of, settles, options_of, one_of, option_of};
+ghost use Rattle.conf_lines.specs.Options.{most_rate, most_bend, most_ruleno, most_port, most_protocol, most_tos, most_burst, most_af, word_of_key, slots_of, completes, options_of, one_of, option_of};
 
 use crate::slot::is_text;
 use crate::statement::Form;
@@ -161,8 +161,8 @@ impl Key {
     }
 
     /// Whether a statement has by it what it must have at its end.
-    pub(crate) fn settles(self) -> bool
-        ensures { result ≡ settles self }
+    pub(crate) fn completes(self) -> bool
+        ensures { result ≡ completes self }
     {
         matches!(
             self,

@@ -6,7 +6,7 @@ ghost use Rattle.line_text.specs.Numbers.{cut};
 
 use crate::fault::ConfKind;
 use crate::item::What;
-use line_text::{Word, cut, decimal, ip4, ip6, rate, whole};
+use line_text::{Token, cut, decimal, ip4, ip6, rate, whole};
 
 /// Whether a word is this text.
 #[tactic(auto, unfolding(crate::specs::Slots::is_text))]
@@ -53,7 +53,7 @@ pub(crate) fn is_name(word: &[u8]) -> bool
 
 /// A RATE in a range, in bits per second.
 #[tactic(auto, unfolding(crate::specs::Slots::rate_in))]
-pub(crate) fn rate_in(low: u64, high: u64, word: &Word) -> Result<u64, ConfKind>
+pub(crate) fn rate_in(low: u64, high: u64, word: &Token) -> Result<u64, ConfKind>
     ensures { result ≡ rate_in low high word.now.parts.now }
 {
     match rate(word) {
@@ -66,7 +66,7 @@ pub(crate) fn rate_in(low: u64, high: u64, word: &Word) -> Result<u64, ConfKind>
 
 /// A WHOLE in a range.
 #[tactic(auto, unfolding(crate::specs::Slots::whole_in))]
-pub(crate) fn whole_in(low: u64, high: u64, word: &Word) -> Result<u64, ConfKind>
+pub(crate) fn whole_in(low: u64, high: u64, word: &Token) -> Result<u64, ConfKind>
     ensures { result ≡ whole_in low high word.now.parts.now }
 {
     if !are_plain(word.parts) {
@@ -80,7 +80,7 @@ pub(crate) fn whole_in(low: u64, high: u64, word: &Word) -> Result<u64, ConfKind
 
 /// A WORD without effect.
 #[tactic(auto, unfolding(crate::specs::Slots::skipped_in))]
-pub(crate) fn skipped_in(word: &Word) -> Result<What, ConfKind>
+pub(crate) fn skipped_in(word: &Token) -> Result<What, ConfKind>
     ensures { result ≡ skipped_in word.now.parts.now }
 {
     if are_plain(word.parts) {
@@ -92,7 +92,7 @@ pub(crate) fn skipped_in(word: &Word) -> Result<What, ConfKind>
 
 /// A protocol: a number of 0 to 255, or one of three words.
 #[tactic(auto, unfolding(crate::specs::Slots::protocol_in))]
-pub(crate) fn protocol_in(word: &Word) -> Result<u64, ConfKind>
+pub(crate) fn protocol_in(word: &Token) -> Result<u64, ConfKind>
     ensures { result ≡ protocol_in word.now.parts.now }
 {
     if is_text("icmp", word.parts) {
@@ -108,7 +108,7 @@ pub(crate) fn protocol_in(word: &Word) -> Result<u64, ConfKind>
 
 /// A mask of an IPv4 address.
 #[tactic(auto, unfolding(crate::specs::Slots::mask_in))]
-pub(crate) fn mask_in(word: &Word) -> Result<What, ConfKind>
+pub(crate) fn mask_in(word: &Token) -> Result<What, ConfKind>
     ensures { result ≡ mask_in word.now.parts.now }
 {
     if !are_plain(word.parts) {
@@ -122,7 +122,7 @@ pub(crate) fn mask_in(word: &Word) -> Result<What, ConfKind>
 
 /// An address of a `filter`: `0`, or an IPv4 address.
 #[tactic(auto, unfolding(crate::specs::Slots::address_in))]
-pub(crate) fn address_in(word: &Word) -> Result<What, ConfKind>
+pub(crate) fn address_in(word: &Token) -> Result<What, ConfKind>
     ensures { result ≡ address_in word.now.parts.now }
 {
     if is_text("0", word.parts) {
@@ -134,7 +134,7 @@ pub(crate) fn address_in(word: &Word) -> Result<What, ConfKind>
 
 /// An address of a `filter6`: `0`, or an IPv6 address with its prefix length.
 #[tactic(auto, unfolding(crate::specs::Slots::address6_in))]
-pub(crate) fn address6_in(word: &Word) -> Result<What, ConfKind>
+pub(crate) fn address6_in(word: &Token) -> Result<What, ConfKind>
     ensures { result ≡ address6_in word.now.parts.now }
 {
     if is_text("0", word.parts) {
@@ -150,13 +150,13 @@ pub(crate) fn address6_in(word: &Word) -> Result<What, ConfKind>
 }
 
 /// An IPv6 address, or one, `/` and a prefix length of at most 128 in decimal digits.
-fn prefix_in(word: &Word) -> Option<What>
+fn prefix_in(word: &Token) -> Option<What>
     ensures { result ≡ prefix_in word.now.parts.now (cut 47 word.now.parts.now) }
 {
     match cut(b'/', word.parts) {
         None => Some(What::Ip6(ip6(word)?, 128)),
         Some((front, behind)) => {
-            let address = ip6(&Word {
+            let address = ip6(&Token {
                 index: word.index,
                 parts: front,
             })?;

@@ -8,7 +8,7 @@ use crate::fault::{ConfKind, ConfPlace};
 use crate::grammar::{Next, Place, Refusal, Step};
 use crate::item::{Item, Items, What};
 use crate::step::{end, step};
-use line_text::{Line, LineFault, Word, next_line, word_count, words};
+use line_text::{Line, LineFault, Token, next_line, word_count, words};
 use play_base::NoMemory;
 use std::alloc::Global;
 
@@ -107,7 +107,7 @@ fn statement_of(alloc: Global, text: &[u8], line: &Line) -> Result<Option<Statem
 }
 
 /// The statement of the words of a line, if there are any.
-fn by_words(alloc: Global, line: u64, words: &[Word]) -> Result<Option<Statement>, NoMemory>
+fn by_words(alloc: Global, line: u64, words: &[Token]) -> Result<Option<Statement>, NoMemory>
     ensures { IfOk result (λ found. found ≡ by_words line (parts_of words.now)) }
 {
     if words.is_empty() {
@@ -120,7 +120,7 @@ fn by_words(alloc: Global, line: u64, words: &[Word]) -> Result<Option<Statement
 }
 
 /// Reads the words of a line.
-fn read(alloc: Global, line: u64, words: &[Word]) -> Result<Statement, NoMemory>
+fn read(alloc: Global, line: u64, words: &[Token]) -> Result<Statement, NoMemory>
     ensures { IfOk result (λ found. found ≡ as_statement line (length words.now + 1) (read_from line (parts_of words.now) start 1)) }
 {
     let mut items = Vec::new(alloc);
@@ -140,17 +140,21 @@ fn read(alloc: Global, line: u64, words: &[Word]) -> Result<Statement, NoMemory>
 fn read_words(
     alloc: Global,
     line: u64,
-    words: &[Word],
+    words: &[Token],
     items: &mut Vec<Item>,
 ) -> Result<(Form, Option<ConfPlace>), NoMemory>
-    ensures { IfOk result (λ stop. behind items.old.items (read_from line (parts_of words.now) start 1) ≡ record { form = stop.0; items = items.new.items; fault = stop.1 }) }
+    ensures { IfOk result (λ stop. behind items.old.items (read_from line (parts_of words.now) start 1) ≡ record {
+      form = stop.0;
+      items = items.new.items;
+      fault = stop.1;
+    }) }
 {
     let mut place = Place {
         form: Form::Unread,
         next: Next::Statement,
         parts: &[],
         stands: true,
-        settled: false,
+        completed: false,
     };
     let mut at = 1;
     let mut left = words;
@@ -174,7 +178,7 @@ fn take(
     items: &mut Vec<Item>,
     at: u64,
     place: Place,
-    word: &Word,
+    word: &Token,
 ) -> Result<Place, Refusal>
     ensures { Takes at (seen place) word.now.parts.now items.old.items items.new.items result }
 {

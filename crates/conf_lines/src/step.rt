@@ -19,7 +19,7 @@ use crate::slot::{
     skipped_in, whole_in,
 };
 use crate::statement::Form;
-use line_text::Word;
+use line_text::Token;
 use std::alloc::{AllocError, Global};
 
 /// A word that says something, and then another is next. No mask may stand behind the address `0`.
@@ -38,7 +38,7 @@ fn says(what: What, place: Place, next: Next) -> Step
 }
 
 /// The refusal of a word that is not allowed at its place.
-fn refused(word: &Word) -> Result<Step, Refusal>
+fn refused(word: &Token) -> Result<Step, Refusal>
     ensures { Gives result (refused word.now.parts.now) }
 {
     if are_plain(word.parts) {
@@ -59,7 +59,7 @@ fn begins(form: Form, next: Next) -> Result<Step, Refusal>
             next,
             parts: parts_of(form),
             stands: true,
-            settled: matches!(form, Form::Filter | Form::Filter6 | Form::Conditioner),
+            completed: matches!(form, Form::Filter | Form::Filter6 | Form::Conditioner),
         },
     })
 }
@@ -82,7 +82,7 @@ fn reads(read: Result<What, ConfKind>, place: Place) -> Result<Step, Refusal>
 }
 
 #[tactic(auto, unfolding(crate::specs::Grammar::at_statement))]
-fn at_statement(word: &Word) -> Result<Step, Refusal>
+fn at_statement(word: &Token) -> Result<Step, Refusal>
     ensures { Gives result (at_statement word.now.parts.now) }
 {
     if is_text("interface", word.parts) {
@@ -101,7 +101,7 @@ fn at_statement(word: &Word) -> Result<Step, Refusal>
 }
 
 #[tactic(auto, unfolding(crate::specs::Grammar::at_discipline))]
-fn at_discipline(word: &Word) -> Result<Step, Refusal>
+fn at_discipline(word: &Token) -> Result<Step, Refusal>
     ensures { Gives result (at_discipline word.now.parts.now) }
 {
     if is_text("hfsc", word.parts) {
@@ -133,16 +133,16 @@ fn behind_option(slots: Slots) -> Next
 fn took(key: Key, place: Place) -> Step
     ensures { Gives (Ok result) (took key (seen place)) }
 {
-    let settled = place.settled || key.settles();
+    let completed = place.completed || key.completes();
     says(
         What::Key(key),
-        Place { settled, ..place },
+        Place { completed, ..place },
         behind_option(key.slots()),
     )
 }
 
 /// An option, or a word that the statement does not have at its place.
-fn chosen(place: Place, word: &Word, option: Option<Key>) -> Result<Step, Refusal>
+fn chosen(place: Place, word: &Token, option: Option<Key>) -> Result<Step, Refusal>
     ensures { Gives result (chosen (seen place) word.now.parts.now option) }
 {
     match option {
@@ -151,7 +151,7 @@ fn chosen(place: Place, word: &Word, option: Option<Key>) -> Result<Step, Refusa
     }
 }
 
-fn at_slope(low: u64, least: u64, place: Place, word: &Word) -> Result<Step, Refusal>
+fn at_slope(low: u64, least: u64, place: Place, word: &Token) -> Result<Step, Refusal>
     ensures { Gives result (at_slope least (rate_in low most_rate word.now.parts.now) (seen place)) }
 {
     match rate_in(low, MOST_RATE, word) {
@@ -160,7 +160,7 @@ fn at_slope(low: u64, least: u64, place: Place, word: &Word) -> Result<Step, Ref
     }
 }
 
-fn at_bend(least: u64, first: u64, place: Place, word: &Word) -> Result<Step, Refusal>
+fn at_bend(least: u64, first: u64, place: Place, word: &Token) -> Result<Step, Refusal>
     ensures { Gives result (at_bend least (whole_in 0 most_bend word.now.parts.now) (seen place) first) }
 {
     match whole_in(0, MOST_BEND, word) {
@@ -178,7 +178,7 @@ fn at_last_slope(
     first: u64,
     time: u64,
     place: Place,
-    word: &Word,
+    word: &Token,
 ) -> Result<Step, Refusal>
     ensures { Gives result (at_last_slope first time (rate_in least most_rate word.now.parts.now) (seen place)) }
 {
@@ -194,7 +194,7 @@ fn at_last_slope(
 }
 
 /// The peak rate of a meter of two rates, and then its burst is next.
-fn at_pir(place: Place, word: &Word) -> Result<Step, Refusal>
+fn at_pir(place: Place, word: &Token) -> Result<Step, Refusal>
     ensures { Gives result (at_pir (rate_in 1000 most_rate word.now.parts.now) (seen place)) }
 {
     match rate_in(1000, MOST_RATE, word) {
@@ -205,7 +205,7 @@ fn at_pir(place: Place, word: &Word) -> Result<Step, Refusal>
 
 /// A NAME, and then a part is next.
 #[tactic(auto, unfolding(crate::specs::Slots::name_in))]
-fn named(alloc: Global, place: Place, word: &Word) -> Result<Step, Refusal>
+fn named(alloc: Global, place: Place, word: &Token) -> Result<Step, Refusal>
     ensures { Gives result (reads (name_in word.now.parts.now) (seen place)) }
 {
     if !is_name(word.parts) {
@@ -231,15 +231,15 @@ fn text_of(alloc: Global, name: &[u8]) -> Result<Text, AllocError>
 
 /// The NAME of a parent: with `NULL` the class is the root, which has what it must have.
 #[tactic(auto, unfolding(crate::specs::Grammar::at_parent))]
-fn at_parent(alloc: Global, place: Place, word: &Word) -> Result<Step, Refusal>
+fn at_parent(alloc: Global, place: Place, word: &Token) -> Result<Step, Refusal>
     ensures { Gives result (at_parent (seen place) word.now.parts.now) }
 {
-    let settled = place.settled || is_text("NULL", word.parts);
-    named(alloc, Place { settled, ..place }, word)
+    let completed = place.completed || is_text("NULL", word.parts);
+    named(alloc, Place { completed, ..place }, word)
 }
 
 /// A word that must be there.
-fn filled(alloc: Global, slot: Slot, place: Place, word: &Word) -> Result<Step, Refusal>
+fn filled(alloc: Global, slot: Slot, place: Place, word: &Token) -> Result<Step, Refusal>
     ensures { Gives result (filled slot (seen place) word.now.parts.now) }
 {
     match slot {
@@ -254,7 +254,7 @@ fn filled(alloc: Global, slot: Slot, place: Place, word: &Word) -> Result<Step, 
 }
 
 /// The first part that the word is read as, or behind the parts an option.
-fn at_part(alloc: Global, place: Place, word: &Word) -> Result<Step, Refusal>
+fn at_part(alloc: Global, place: Place, word: &Token) -> Result<Step, Refusal>
     ensures { Gives result (at_part (reach place.stands place.parts.now word.now.parts.now) (seen place) word.now.parts.now) }
 {
     let left = reach(place.stands, place.parts, word.parts);
@@ -281,7 +281,7 @@ fn at_part(alloc: Global, place: Place, word: &Word) -> Result<Step, Refusal>
 
 /// What a word leads to from a place.
 #[tactic(auto, unfolding(crate::specs::Grammar::step))]
-pub(crate) fn step(alloc: Global, place: Place, word: &Word) -> Result<Step, Refusal>
+pub(crate) fn step(alloc: Global, place: Place, word: &Token) -> Result<Step, Refusal>
     ensures { Gives result (step (seen place) word.now.parts.now) }
 {
     match place.next {
@@ -326,7 +326,7 @@ pub(crate) fn end(place: Place) -> Option<ConfKind>
 {
     match place.next {
         Next::Part if !may_end(place.parts) => Some(ConfKind::MissingWord),
-        Next::Part if place.settled => None,
+        Next::Part if place.completed => None,
         Next::Part if matches!(place.form, Form::ClassHfsc) => Some(ConfKind::NoShare),
         _ => Some(ConfKind::MissingWord),
     }

@@ -8,17 +8,17 @@ use Rattle.conf_lines.specs.declared.item.What.{What}
 use Rattle.conf_lines.specs.declared.item.What.TheVariants as what
 use Rattle.conf_tree.specs.declared.interface.Kind.{Kind}
 use Rattle.conf_tree.specs.declared.interface.Kind.TheVariants.{Hfsc, Cbq}
-use Rattle.conf_tree.specs.declared.settings.Scope.{Scope}
+use Rattle.conf_tree.specs.declared.settings.ReadContext.{ReadContext}
 use Rattle.conf_tree.specs.declared.settings.Settings.{Settings}
 use Rattle.conf_tree.specs.Items.{number_behind}
 use Rattle.conf_tree.specs.Settings.{set_option}
 
 -- class: what one word sets, and what all of them do
-abbrev pub set_by_word : Scope → Settings → ℕ → What → List Item → Result Settings ConfPlace
+abbrev pub set_by_word : ReadContext → Settings → ℕ → What → List Item → Result Settings ConfPlace
 set_by_word scope s word (what.Key key) items = set_option scope s word key items
 set_by_word scope s word _ items = Ok s
 
-abbrev pub set_options : Scope → Settings → List Item → Result Settings ConfPlace
+abbrev pub set_options : ReadContext → Settings → List Item → Result Settings ConfPlace
 set_options scope s [] = Ok s
 set_options scope s (item ∷ items) =
     elim (set_by_word scope s item.word item.what items) [ Ok t ↦ set_options scope t items | Err fault ↦ Err fault ]

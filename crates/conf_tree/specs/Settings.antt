@@ -16,7 +16,7 @@ use Rattle.conf_tree.specs.declared.class.Class.{Class}
 use Rattle.conf_tree.specs.declared.interface.Kind.{Kind}
 use Rattle.conf_tree.specs.declared.interface.Kind.TheVariants.{Hfsc, Cbq}
 use Rattle.conf_tree.specs.declared.class.DropRule.TheVariants.{Tail, Red, Ecn, Rio}
-use Rattle.conf_tree.specs.declared.settings.Scope.{Scope}
+use Rattle.conf_tree.specs.declared.settings.ReadContext.{ReadContext}
 use Rattle.conf_tree.specs.declared.settings.Settings.{Settings}
 use Rattle.conf_tree.specs.Items.{number_at, number_behind, word_at}
 use Rattle.conf_tree.specs.Places.{fault_at}
@@ -96,19 +96,19 @@ abbrev pub percent : ℕ → ℕ → ℕ
 percent rate n = n * rate / 100
 
 -- pbandwidth P: the rate is tested at the word of its number
-abbrev pub set_percent : Scope → Settings → ℕ → Option ℕ → Result Settings ConfPlace
+abbrev pub set_percent : ReadContext → Settings → ℕ → Option ℕ → Result Settings ConfPlace
 set_percent scope s word None = Ok s
 set_percent scope s word (Some n) =
     if nat_le 1000 (percent scope.rate n) && nat_le (percent scope.rate n) most_rate then Ok (record s { rate = Some (percent scope.rate n) })
     else Err (fault_at scope.line word RateRange)
 
 -- default: one on each interface
-abbrev pub set_default : Scope → Settings → ℕ → Result Settings ConfPlace
+abbrev pub set_default : ReadContext → Settings → ℕ → Result Settings ConfPlace
 set_default scope s word =
     if scope.chosen || s.is_default then Err (fault_at scope.line word TwoDefaults) else Ok (record s { is_default = true })
 
 -- What the option word at a word of the line sets, by the items behind it: an option of both kinds of classes
-abbrev pub set_queue : Scope → Settings → ℕ → Key → List Item → Result Settings ConfPlace
+abbrev pub set_queue : ReadContext → Settings → ℕ → Key → List Item → Result Settings ConfPlace
 set_queue scope s word key.Qlimit items = Ok (record s { limit = unwrap_or (number_behind key.Qlimit items) s.limit })
 set_queue scope s word key.Red items = Ok (record s { drop = Red })
 set_queue scope s word key.Ecn items = Ok (record s { drop = Ecn })
@@ -118,7 +118,7 @@ set_queue scope s word key.Default items = set_default scope s word
 set_queue scope s word _ items = Ok s
 
 -- an option of CBQ, or one of both
-abbrev pub set_cbq : Scope → Settings → ℕ → Key → List Item → Result Settings ConfPlace
+abbrev pub set_cbq : ReadContext → Settings → ℕ → Key → List Item → Result Settings ConfPlace
 set_cbq scope s word key.Priority items = Ok (record s { priority = unwrap_or (number_behind key.Priority items) s.priority })
 set_cbq scope s word key.Pbandwidth items = set_percent scope s (word_at items 0) (number_behind key.Pbandwidth items)
 set_cbq scope s word key.Exactbandwidth items = Ok (record s { rate = option_or (number_behind key.Exactbandwidth items) s.rate })
@@ -130,7 +130,7 @@ set_cbq scope s word key items = set_queue scope s word key items
 
 -- an option of HFSC, or another; sc sets both curves, and a class whose real-time curve was set last by rt or grate cannot
 -- be a parent
-abbrev pub set_option : Scope → Settings → ℕ → Key → List Item → Result Settings ConfPlace
+abbrev pub set_option : ReadContext → Settings → ℕ → Key → List Item → Result Settings ConfPlace
 set_option scope s word key.Sc items =
     let curve = curve_behind key.Sc items in
     Ok (record s { real = option_or curve s.real; fixed = false; share = option_or curve s.share })

@@ -4,7 +4,7 @@ ghost use Rattle.conf_tree.specs.Classes.{branch_of};
 
 use crate::class::Class;
 use crate::interface::Kind;
-use crate::settings::{Shape, class_of, of_kind, rate_of_kind};
+use crate::settings::{ClassDraft, class_of, of_kind, rate_of_kind};
 use conf_lines::Text;
 use play_base::NoMemory;
 use std::alloc::Global;
@@ -38,12 +38,12 @@ pub(crate) fn branch_of(
     alloc: Global,
     kind: Kind,
     name: &str,
-    shape: Shape,
+    shape: ClassDraft,
 ) -> Result<Branch, NoMemory>
     ensures { IfOk result (λ branch. branch ≡ branch_of kind name.now shape) }
 {
     let name = text_of(alloc, name)?;
-    let Shape {
+    let ClassDraft {
         spot,
         settings,
         rate,

@@ -11,7 +11,7 @@ use crate::interface::Kind;
 use crate::items::{behind, name_at};
 use crate::options::set_options;
 use crate::places::{at_word, own_fault};
-use crate::settings::{Scope, Settings, Shape, Spot, unset};
+use crate::settings::{ClassDraft, ReadContext, Settings, TreePosition, unset};
 use crate::tree::Tree;
 use conf_lines::{ConfFault, ConfKind, ConfPlace, Statement};
 use play_base::NoMemory;
@@ -34,7 +34,12 @@ fn is_queue(kind: Kind, branch: &Branch) -> bool
 }
 
 /// Below the class of a number.
-fn below(kind: Kind, statement: &Statement, number: u32, branch: &Branch) -> Result<Spot, ConfPlace>
+fn below(
+    kind: Kind,
+    statement: &Statement,
+    number: u32,
+    branch: &Branch,
+) -> Result<TreePosition, ConfPlace>
     ensures { result ≡ below kind statement.now number branch.now }
 {
     if branch.level >= 8 {
@@ -44,7 +49,7 @@ fn below(kind: Kind, statement: &Statement, number: u32, branch: &Branch) -> Res
     } else if is_queue(kind, branch) {
         Err(at_word(statement, 5, ConfKind::InnerQueue))
     } else {
-        Ok(Spot {
+        Ok(TreePosition {
             parent: Some(number),
             level: branch.level + 1,
         })
@@ -52,14 +57,14 @@ fn below(kind: Kind, statement: &Statement, number: u32, branch: &Branch) -> Res
 }
 
 /// Where a class of this parent stands.
-fn spot_of(draft: &Draft, statement: &Statement, parent: &str) -> Result<Spot, ConfPlace>
+fn spot_of(draft: &Draft, statement: &Statement, parent: &str) -> Result<TreePosition, ConfPlace>
     ensures { result ≡ spot_of draft.now statement.now parent.now }
 {
     if parent == "NULL" {
         if draft.rooted {
             return Err(at_word(statement, 5, ConfKind::TwoRoots));
         }
-        return Ok(Spot {
+        return Ok(TreePosition {
             parent: None,
             level: 1,
         });
@@ -74,7 +79,7 @@ fn spot_of(draft: &Draft, statement: &Statement, parent: &str) -> Result<Spot, C
 }
 
 /// The rate that a CBQ class has at its end: the root that of the bandwidth, if it is not given.
-fn rate_given(rate: u64, spot: Spot, settings: Settings) -> Option<u64>
+fn rate_given(rate: u64, spot: TreePosition, settings: Settings) -> Option<u64>
     ensures { result ≡ rate_given rate spot settings }
 {
     match settings.rate {
@@ -88,7 +93,7 @@ fn rate_given(rate: u64, spot: Spot, settings: Settings) -> Option<u64>
 fn rate_at_end(
     draft: &Draft,
     statement: &Statement,
-    spot: Spot,
+    spot: TreePosition,
     settings: Settings,
 ) -> Result<u64, ConfPlace>
     ensures { result ≡ rate_at_end draft.now.kind draft.now statement.now spot settings }
@@ -106,7 +111,7 @@ fn rate_at_end(
 }
 
 /// A class of this name, but for the name.
-fn shape_of(draft: &Draft, statement: &Statement, name: &str) -> Result<Shape, ConfPlace>
+fn shape_of(draft: &Draft, statement: &Statement, name: &str) -> Result<ClassDraft, ConfPlace>
     ensures shape { result ≡ shape_of draft.now statement.now name.now }
     ensures new { IfOk result (λ _. class_number name.now draft.now.classes ≡ None) }
 {
@@ -117,7 +122,7 @@ fn shape_of(draft: &Draft, statement: &Statement, name: &str) -> Result<Shape, C
         return Err(own_fault(statement));
     };
     let spot = spot_of(draft, statement, parent)?;
-    let scope = Scope {
+    let scope = ReadContext {
         line: statement.line,
         rate: draft.rate,
         chosen: draft.chosen,
@@ -127,7 +132,7 @@ fn shape_of(draft: &Draft, statement: &Statement, name: &str) -> Result<Shape, C
         return Err(fault);
     }
     let rate = rate_at_end(draft, statement, spot, settings)?;
-    Ok(Shape {
+    Ok(ClassDraft {
         spot,
         settings,
         rate,

@@ -51,7 +51,7 @@ impl Conf {
         }
     }
 
-    /// The interface of a name; `None` exactly where the configuration has none. Takes no memory, and time linear in the
+    /// The interface of a name; `None` exactly where the configuration has none. Does not allocate; takes time linear in the
     /// interfaces, of which there are at most 16.
     pub fn interface(&self, name: &str) -> Option<&Interface>
         ensures { option_copied result ≡ find (λ i. bytes_eq name.now i.name) self.now }

@@ -81,7 +81,7 @@ impl<'a> Draft<'a> {
         }
     }
 
-    /// Its classes and its filters. Takes no memory.
+    /// Its classes and its filters. Does not allocate.
     pub(crate) fn into_parts(self) -> (Vec<Branch>, Vec<Filter>)
         ensures classes { result.0.items ≡ self.entry.classes }
         ensures filters { result.1.items ≡ self.entry.filters }
@@ -131,7 +131,7 @@ impl<'a> Draft<'a> {
         }
     }
 
-    /// Adds a conditioner. Takes no memory.
+    /// Adds a conditioner. Does not allocate.
     pub(crate) fn add_conditioner(&mut self, conditioner: Conditioner)
         ensures added { self.new ≡ add_conditioner self.old conditioner }
         ensures name { self.new.name ≡ self.old.name }

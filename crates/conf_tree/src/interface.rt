@@ -35,14 +35,14 @@ impl Model for ClassList {
 impl ClassList {
     ghost use Rattle.std.specs.Prelude.{◌≡◌};
 
-    /// The classes of a vector. Takes no memory.
+    /// The classes of a vector. Does not allocate.
     pub fn of(classes: Vec<Class>) -> ClassList
         ensures { result ≡ classes.items }
     {
         ClassList { classes }
     }
 
-    /// The classes, in order. Takes no memory.
+    /// The classes, in order. Does not allocate.
     pub fn as_slice(&self) -> &[Class]
         ensures { result.now ≡ self.now }
     {
@@ -68,14 +68,14 @@ impl Model for FilterList {
 impl FilterList {
     ghost use Rattle.std.specs.Prelude.{◌≡◌};
 
-    /// The filters of a vector. Takes no memory.
+    /// The filters of a vector. Does not allocate.
     pub fn of(filters: Vec<Filter>) -> FilterList
         ensures { result ≡ filters.items }
     {
         FilterList { filters }
     }
 
-    /// The filters, in order. Takes no memory.
+    /// The filters, in order. Does not allocate.
     pub fn as_slice(&self) -> &[Filter]
         ensures { result.now ≡ self.now }
     {

@@ -4,12 +4,12 @@ ghost use Rattle.conf_tree.specs.Options.{set_by_word, set_options, rate_by_word
 
 use crate::interface::Kind;
 use crate::items::number_behind;
-use crate::settings::{Scope, Settings, set_option};
+use crate::settings::{ReadContext, Settings, set_option};
 use conf_lines::{ConfPlace, Item, Key, What};
 
 /// What a word of a class sets, by the items behind it.
 fn set_by_word(
-    scope: Scope,
+    scope: ReadContext,
     settings: Settings,
     item: &Item,
     items: &[Item],
@@ -24,7 +24,7 @@ fn set_by_word(
 
 /// What the options of a class set.
 pub(crate) fn set_options(
-    scope: Scope,
+    scope: ReadContext,
     unset: Settings,
     items: &[Item],
 ) -> Result<Settings, ConfPlace>

@@ -34,7 +34,7 @@ pub(crate) struct Settings {
 
 /// What the options of a class are read under: its line, the bandwidth of its interface, and whether that has a default.
 #[derive(Clone, Copy)]
-pub(crate) struct Scope {
+pub(crate) struct ReadContext {
     pub(crate) line: u64,
     pub(crate) rate: u64,
     pub(crate) chosen: bool,
@@ -42,15 +42,15 @@ pub(crate) struct Scope {
 
 /// Where a class stands below its root.
 #[derive(Clone, Copy)]
-pub(crate) struct Spot {
+pub(crate) struct TreePosition {
     pub(crate) parent: Option<u32>,
     pub(crate) level: u8,
 }
 
 /// A class but for its name: where it stands, its settings, and its rate, which is 0 in HFSC.
 #[derive(Clone, Copy)]
-pub(crate) struct Shape {
-    pub(crate) spot: Spot,
+pub(crate) struct ClassDraft {
+    pub(crate) spot: TreePosition,
     pub(crate) settings: Settings,
     pub(crate) rate: u64,
 }
@@ -203,7 +203,7 @@ fn priority_or(unset: u8, items: &[Item]) -> u8
 
 /// `pbandwidth`: the rate is tested at its number.
 fn set_percent(
-    scope: Scope,
+    scope: ReadContext,
     settings: Settings,
     word: u64,
     n: Option<u64>,
@@ -226,7 +226,7 @@ fn set_percent(
 }
 
 /// `default`: one on each interface.
-fn set_default(scope: Scope, settings: Settings, word: u64) -> Result<Settings, ConfPlace>
+fn set_default(scope: ReadContext, settings: Settings, word: u64) -> Result<Settings, ConfPlace>
     ensures { result ≡ set_default scope settings word }
 {
     if scope.chosen || settings.is_default {
@@ -269,7 +269,7 @@ fn with_upper(settings: Settings, upper: Option<Curve>) -> Settings
 
 /// What an option of both kinds of classes sets, and `default` tests.
 fn set_queue(
-    scope: Scope,
+    scope: ReadContext,
     s: Settings,
     word: u64,
     key: Key,
@@ -306,7 +306,7 @@ fn set_queue(
 
 /// What an option of CBQ sets, or one of both kinds of classes.
 fn set_cbq(
-    scope: Scope,
+    scope: ReadContext,
     s: Settings,
     word: u64,
     key: Key,
@@ -344,7 +344,7 @@ fn set_cbq(
 
 /// What an option sets, whose word is at a word of the line, by the items behind it.
 pub(crate) fn set_option(
-    scope: Scope,
+    scope: ReadContext,
     s: Settings,
     word: u64,
     key: Key,

@@ -49,7 +49,7 @@ impl<'a> Tree<'a> {
         self.interfaces.as_slice()
     }
 
-    /// The interfaces, on their own. Takes no memory.
+    /// The interfaces, on their own. Does not allocate.
     pub(crate) fn into_interfaces(self) -> Vec<Draft<'a>>
         ensures { result.items ≡ self.entry }
     {
@@ -104,7 +104,7 @@ impl<'a> Tree<'a> {
         Ok(())
     }
 
-    /// Adds a conditioner to an interface. Takes no memory.
+    /// Adds a conditioner to an interface. Does not allocate.
     pub(crate) fn add_conditioner(&mut self, number: usize, conditioner: Conditioner)
         ensures { (b : Begun) → slice_get self.old number ≡ Some b → self.new ≡ slice_set self.old number (add_conditioner b conditioner) }
     {

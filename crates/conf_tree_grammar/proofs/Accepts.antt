@@ -22,13 +22,13 @@ use Rattle.conf_tree.specs.Settings.{unset}
 use Rattle.conf_tree.specs.Tests.{◌>>=◌, own, some}
 use Rattle.conf_tree.specs.Tree.{Begun, add_class, add_conditioner, add_filter, class_name, class_number, interface_name, interface_number}
 use Rattle.conf_laws.proofs.InTurn.{fit_refuse, fit_some, fit_then}
-use Rattle.conf_laws.proofs.Types.{Branch, Conditioner as Metered, Scope, Settings, Shape, Spot}
+use Rattle.conf_laws.proofs.Types.{Branch, Conditioner as Metered, ReadContext, Settings, ClassDraft, TreePosition}
 use Rattle.conf_tree_grammar.specs.Grammar.{HoldsNone, MayBeClass, MayBeConditioner, MayBeFilter, MayBeNamed, MayBeParent, MayBeSaid, has_class, has_own, has_root, is_null, kind_said, level, said_of}
 use Rattle.conf_tree_grammar.specs.Options.{AreRates, defaults, has_rate, has_share, stays_after}
 use Rattle.conf_tree_grammar.specs.Sayings.{Saying, Class, Conditioner, Filter, Interface, saying}
 use Rattle.conf_tree_grammar.proofs.Lookups.{First, found, is_named, looked, named, none_looked}
 use Rattle.conf_tree_grammar.proofs.OptionsSet.{ByAll, Sets, all_by, count_of}
-use Rattle.conf_tree_grammar.proofs.Told.{BegunTold, ClassTold, IsNewClass, Place, TellsBegun, TellsClass, TellsNone, Told, below as under, changed_told, class_added, conditioner_told, filter_told, new_told, top}
+use Rattle.conf_tree_grammar.proofs.Told.{BegunTold, ClassTold, IsNewClass, Place, TellsBegun, TellsClass, TellsNone, StateStands, below as under, changed_told, class_added, conditioner_told, filter_told, new_told, top}
 
 -- TESTS in turn
 fit_own : {B : Type 0} (Q : B → Type 0) (o : Option ConfPlace) (next : Unit {0} → Result B ConfPlace) → (o ≡ None → IfOk (next tt) Q)
@@ -55,7 +55,7 @@ default_is false n e = grind (arith, nat_tests, e)
 default_is true n e = grind (arith, nat_tests, e)
 
 -- WHAT IS TOLD of an interface or a class that is looked up
-pub told_at : (before : List Saying) (state : List Begun) (x : List ℕ) (j : ℕ) (b : Begun) → Told before state → First interface_name x state j b
+pub told_at : (before : List Saying) (state : List Begun) (x : List ℕ) (j : ℕ) (b : Begun) → StateStands before state → First interface_name x state j b
     → TellsBegun (said_of x before) b
 told_at before state x j b t first = subst (BegunTold (said_of x before)) (found interface_name x state j b first) (t.each x)
 
@@ -71,7 +71,7 @@ pub record Accepts (before : List Saying) (s : Statement) (after : List Begun) :
   pub said : Saying
   pub says : saying s ≡ Some said
   pub may : MayBeSaid before said
-  pub told : Told (said ∷ before) after
+  pub told : StateStands (said ∷ before) after
 
 -- an interface
 record IsKind (state : List Begun) (s : Statement) (name : List ℕ) (kind : Kind) : Type 0 where
@@ -87,7 +87,7 @@ kind_ok state s name =
     fit_last Q (kind_by_options None (drop 1 s.items)) _ (λ kind e.
     record { new = none_looked interface_name name state (none_of _ new); whole = whole; kind_is = e })))
 
-interface_accepted : (before : List Saying) (state : List Begun) (s : Statement) → Told before state → s.form ≡ form.Interface
+interface_accepted : (before : List Saying) (state : List Begun) (s : Statement) → StateStands before state → s.form ≡ form.Interface
     → IfOk (read_interface state s) (Accepts before s)
 interface_accepted before state s t f =
     let Q = Accepts before s in
@@ -103,7 +103,7 @@ interface_accepted before state s t f =
     })))
 
 -- where a class stands
-pub record IsSpot (b : Begun) (local : List Saying) (parent : List ℕ) (spot : Spot) : Type 0 where
+pub record IsPosition (b : Begun) (local : List Saying) (parent : List ℕ) (spot : TreePosition) : Type 0 where
   pub root : is_null parent ≡ true → has_root local ≡ false
   pub may : is_null parent ≡ false → MayBeParent b.kind local parent
   pub place : Place b parent spot.parent
@@ -115,9 +115,9 @@ holds_none local x c t e =
     let first = or_parts c.class.is_default c.filtered parts.0 in
     record { default = sym t.default ∙ first.0; filter = sym t.filtered ∙ first.1; conditioner = sym t.metered ∙ parts.1 }
 
-pub spot_ok : (local : List Saying) (b : Begun) (s : Statement) (parent : List ℕ) → TellsBegun local b → IfOk (spot_of b s parent) (IsSpot b local parent)
+pub spot_ok : (local : List Saying) (b : Begun) (s : Statement) (parent : List ℕ) → TellsBegun local b → IfOk (spot_of b s parent) (IsPosition b local parent)
 spot_ok local b s parent t =
-    let Q = IsSpot b local parent in
+    let Q = IsPosition b local parent in
     cond_both (is_null parent) _ _ (λ r. IfOk r Q)
     (λ null. fit_refuse Q b.rooted _ _ (λ free. record {
       root = λ e. sym t.rooted ∙ free;
@@ -154,13 +154,13 @@ share_there None share x e f = absurd cc
 share_there (Some y) None x e f = absurd cc
 share_there (Some y) (Some z) x e f = refl
 
-abbrev pub IsOwn : Kind → Spot → List Item → ℕ → Type 0
+abbrev pub IsOwn : Kind → TreePosition → List Item → ℕ → Type 0
 IsOwn kind spot options rate = (j : ℕ) → spot.parent ≡ Some j → has_own kind options ≡ true
 
 abbrev pub AreSet : Begun → Statement → List Item → Settings → Type 0
 AreSet b s options t = Sets (scope_of b s) unset t (has_share options) (has_rate options) (stays_after false options) (defaults options) (AreRates b.rate options)
 
-own_ok : (kind : Kind) (b : Begun) (s : Statement) (spot : Spot) (settings : Settings) (options : List Item) → AreSet b s options settings
+own_ok : (kind : Kind) (b : Begun) (s : Statement) (spot : TreePosition) (settings : Settings) (options : List Item) → AreSet b s options settings
     → IfOk (rate_at_end kind b s spot settings) (IsOwn kind spot options)
 own_ok Hfsc b s spot settings options set =
     fit_refuse (IsOwn Hfsc spot options) (is_some spot.parent && is_none settings.share) _ _
@@ -169,18 +169,18 @@ own_ok Cbq b s spot settings options set =
     fit_last (IsOwn Cbq spot options) (rate_given b.rate spot settings) _
     (λ rate e j up. sym set.rate ∙ rate_there settings.rate rate (rw up at e))
 
-pub set_ok : (scope : Scope) (options : List Item) (r : Result Settings ConfPlace) → ByAll scope unset options r
+pub set_ok : (scope : ReadContext) (options : List Item) (r : Result Settings ConfPlace) → ByAll scope unset options r
     → IfOk r (λ t. Sets scope unset t (has_share options) (has_rate options) (stays_after false options) (defaults options) (AreRates scope.rate options))
 set_ok scope options (Ok t) h = h
 set_ok scope options (Err fault) h = tt
 
 -- its shape
-record IsShape (b : Begun) (local : List Saying) (s : Statement) (name : List ℕ) (shape : Shape) : Type 0 where
+record IsDraft (b : Begun) (local : List Saying) (s : Statement) (name : List ℕ) (shape : ClassDraft) : Type 0 where
   whole : s.fault ≡ None
   parent : List ℕ
   up : name_at s.items 2 ≡ Some parent
   new : named class_name name b.classes ≡ None
-  spot : IsSpot b local parent shape.spot
+  spot : IsPosition b local parent shape.spot
   set : AreSet b s (drop 3 s.items) shape.settings
   own : IsOwn b.kind shape.spot (drop 3 s.items) 0
 
@@ -188,12 +188,12 @@ pub chosen_few : (b : Bool) → 0 + (0 + count_of b) ≤ 1
 chosen_few false = omega arith
 chosen_few true = omega arith
 
-shape_ok : (local : List Saying) (b : Begun) (s : Statement) (name : List ℕ) → TellsBegun local b → IfOk (shape_of b s name) (IsShape b local s name)
+shape_ok : (local : List Saying) (b : Begun) (s : Statement) (name : List ℕ) → TellsBegun local b → IfOk (shape_of b s name) (IsDraft b local s name)
 shape_ok local b s name t =
-    let Q = IsShape b local s name in
+    let Q = IsDraft b local s name in
     fit_refuse Q (is_some (class_number name b.classes)) _ _ (λ new.
     fit_some Q (name_at s.items 2) _ _ (λ parent up.
-    fit_then (IsSpot b local parent) Q (spot_of b s parent) _ (spot_ok local b s parent t) (λ spot is.
+    fit_then (IsPosition b local parent) Q (spot_of b s parent) _ (spot_ok local b s parent t) (λ spot is.
     fit_then (AreSet b s (drop 3 s.items)) Q (set_options (scope_of b s) unset (drop 3 s.items)) _
     (set_ok (scope_of b s) (drop 3 s.items) _ (all_by (scope_of b s) unset (drop 3 s.items) (chosen_few b.chosen))) (λ settings set.
     fit_own Q s.fault _ (λ whole.
@@ -223,7 +223,7 @@ parent_there : (b : Begun) (parent : List ℕ) (up : Option ℕ) → Place b par
 parent_there b parent up (top null e) child = absurd cc
 parent_there b parent up (under other j q first e) child = (j, e)
 
-new_is : (kind : Kind) (local : List Saying) (name parent : List ℕ) (options : List Item) (shape : Shape) → has_class local name ≡ false
+new_is : (kind : Kind) (local : List Saying) (name parent : List ℕ) (options : List Item) (shape : ClassDraft) → has_class local name ≡ false
     → shape.spot.level ≡ cond (is_null parent) 1 (level local parent + 1) → shape.settings.fixed ≡ stays_after false options
     → count_of shape.settings.is_default ≡ defaults options → IsNewClass kind local name parent options (branch_of kind name shape)
 new_is Hfsc local name parent options shape new high stays default = record {
@@ -254,7 +254,7 @@ class_ok local b s t =
     let Q = IsClass b local s in
     fit_some Q (name_at s.items 1) _ _ (λ name here.
     fit_refuse Q (is_full b) _ _ (λ room.
-    fit_then (IsShape b local s name) Q (shape_of b s name) _ (shape_ok local b s name t) (λ shape is.
+    fit_then (IsDraft b local s name) Q (shape_of b s name) _ (shape_ok local b s name t) (λ shape is.
     let new = (no_class local b name t is.new).none in
     let set = is.set in
     let default : count_of shape.settings.is_default ≡ defaults (drop 3 s.items) = omega (arith, set.default) in
@@ -301,7 +301,7 @@ branch_ok kind local b s t =
     is_ok (Ok c) h k = k c h
     is_ok (Err fault) h k = tt
 
-class_accepted : (before : List Saying) (state : List Begun) (kind : Kind) (s : Statement) → Told before state → s.form ≡ class_form kind
+class_accepted : (before : List Saying) (state : List Begun) (kind : Kind) (s : Statement) → StateStands before state → s.form ≡ class_form kind
     → IfOk (read_class state kind s) (Accepts before s)
 class_accepted before state kind s t f =
     let Q = Accepts before s in
@@ -359,7 +359,7 @@ filter_ok local b s t =
       first = first;
     }))))))
 
-filter_accepted : (before : List Saying) (state : List Begun) (s : Statement) → Told before state
+filter_accepted : (before : List Saying) (state : List Begun) (s : Statement) → StateStands before state
     → ((i class : List ℕ) → s.fault ≡ None → name_at s.items 0 ≡ Some i → name_at s.items 1 ≡ Some class → saying s ≡ Some (Filter i class))
     → IfOk (read_filter state s) (Accepts before s)
 filter_accepted before state s t says =
@@ -403,7 +403,7 @@ conditioner_ok local b s t =
       first = first;
     }))))))
 
-conditioner_accepted : (before : List Saying) (state : List Begun) (s : Statement) → Told before state → s.form ≡ form.Conditioner
+conditioner_accepted : (before : List Saying) (state : List Begun) (s : Statement) → StateStands before state → s.form ≡ form.Conditioner
     → IfOk (read_conditioner state s) (Accepts before s)
 conditioner_accepted before state s t f =
     let Q = Accepts before s in
@@ -420,7 +420,7 @@ conditioner_accepted before state s t f =
           (conditioner_told (said_of i before) b i is.class c is.q tells is.first);
     }))))
 
-pub statement_accepted : (before : List Saying) (state : List Begun) (s : Statement) → Told before state → IfOk (read_statement state s) (Accepts before s)
+pub statement_accepted : (before : List Saying) (state : List Begun) (s : Statement) → StateStands before state → IfOk (read_statement state s) (Accepts before s)
 statement_accepted before state s t = go s.form refl
   where
     go : (f : Form) → s.form ≡ f → IfOk (read_form f state s) (Accepts before s)

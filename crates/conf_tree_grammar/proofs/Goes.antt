@@ -20,14 +20,14 @@ use Rattle.conf_tree.specs.Reading.{read_form, read_statement}
 use Rattle.conf_tree.specs.Settings.{unset}
 use Rattle.conf_tree.specs.Tests.{◌>>=◌, own, refuse, some}
 use Rattle.conf_tree.specs.Tree.{Begun, class_name, class_number, interface_name, interface_number}
-use Rattle.conf_laws.proofs.Types.{Branch, Scope, Settings, Spot}
+use Rattle.conf_laws.proofs.Types.{Branch, ReadContext, Settings, TreePosition}
 use Rattle.conf_tree_grammar.specs.Grammar.{HoldsNone, MayBeClass, MayBeConditioner, MayBeFilter, MayBeInterface, MayBeNamed, MayBeSaid, has_class, has_own, is_null, kind_said, said_of}
 use Rattle.conf_tree_grammar.specs.Options.{AreRates, defaults}
 use Rattle.conf_tree_grammar.specs.Sayings.{Saying, Class, Conditioner, Filter, Interface, class_said, conditioner_said, filter_said, interface_said, said_by, saying, unless}
 use Rattle.conf_tree_grammar.proofs.Lookups.{First, at_none, at_place, first_of_found, named, stands}
 use Rattle.conf_tree_grammar.proofs.OptionsSet.{AreFew, ByAll, all_by}
-use Rattle.conf_tree_grammar.proofs.Told.{BegunTold, ClassTold, Place, TellsBegun, TellsClass, Told, below as under, top}
-use Rattle.conf_tree_grammar.proofs.Accepts.{AreSet, IsOwn, IsSpot, chosen_few, set_ok, spot_ok, told_at, told_class}
+use Rattle.conf_tree_grammar.proofs.Told.{BegunTold, ClassTold, Place, TellsBegun, TellsClass, StateStands, below as under, top}
+use Rattle.conf_tree_grammar.proofs.Accepts.{AreSet, IsOwn, IsPosition, chosen_few, set_ok, spot_ok, told_at, told_class}
 
 -- TESTS in turn
 abbrev pub Goes : {A : Type 0} → Result A ConfPlace → Type 0
@@ -61,7 +61,7 @@ record FindsBegun (before : List Saying) (state : List Begun) (i : List ℕ) (ki
   first : First interface_name i state j b
   is : b.kind ≡ kind
 
-finds_begun : (before : List Saying) (state : List Begun) (i : List ℕ) (kind : Kind) → Told before state → kind_said (said_of i before) ≡ Some kind
+finds_begun : (before : List Saying) (state : List Begun) (i : List ℕ) (kind : Kind) → StateStands before state → kind_said (said_of i before) ≡ Some kind
     → FindsBegun before state i kind
 finds_begun before state i kind t said = go (named interface_name i state) refl (t.each i)
   where
@@ -92,7 +92,7 @@ no_number local b x t none = go (named class_name x b.classes) refl (t.class x)
     go (Some q) e h = let stood = h.stood in absurd cc
 
 -- AN INTERFACE
-interface_goes : (before : List Saying) (state : List Begun) (s : Statement) (name : List ℕ) (kind : Kind) → Told before state → s.fault ≡ None
+interface_goes : (before : List Saying) (state : List Begun) (s : Statement) (name : List ℕ) (kind : Kind) → StateStands before state → s.fault ≡ None
     → name_at s.items 0 ≡ Some name → kind_by_options None (drop 1 s.items) ≡ Some kind → MayBeInterface before name → Goes (read_interface state s)
 interface_goes before state s name kind t whole name_is kind_is may =
     go_some (name_at s.items 0) _ _ name name_is (
@@ -130,7 +130,7 @@ spot_goes local b s name parent options t may = go (is_null parent) refl
         go_refuse f.q.fixed _ _ (tells.fixed ∙ up.real_time) (
         go_refuse (is_queue b.kind f.q) _ _ (queue_is b.kind local parent f.q tells up.packets) (_, refl)))))
 
-set_goes : (scope : Scope) (options : List Item) (r : Result Settings ConfPlace) → ByAll scope unset options r → AreRates scope.rate options
+set_goes : (scope : ReadContext) (options : List Item) (r : Result Settings ConfPlace) → ByAll scope unset options r → AreRates scope.rate options
     → AreFew scope unset (defaults options) → Goes r
 set_goes scope options (Ok t) h rates few = (t, refl)
 set_goes scope options (Err fault) h rates few = absurd (h rates few)
@@ -146,7 +146,7 @@ given_by (Some n) up rate h = (n, refl)
 given_by None None rate h = (rate, refl)
 given_by None (Some j) rate h = let no = h j refl in absurd cc
 
-rate_goes : (kind : Kind) (b : Begun) (s : Statement) (spot : Spot) (settings : Settings) (options : List Item) → AreSet b s options settings
+rate_goes : (kind : Kind) (b : Begun) (s : Statement) (spot : TreePosition) (settings : Settings) (options : List Item) → AreSet b s options settings
     → IsOwn kind spot options 0 → Goes (rate_at_end kind b s spot settings)
 rate_goes Hfsc b s spot settings options set own =
     go_refuse (is_some spot.parent && is_none settings.share) _ _ (shared_by spot.parent settings.share (λ j up. set.share ∙ own j up)) (_, refl)
@@ -167,7 +167,7 @@ shape_goes local b s name parent t whole up may =
     go_refuse (is_some (class_number name b.classes)) _ _ (no_number local b name t may.new) (
     go_some (name_at s.items 2) _ _ parent up (
     go_then (spot_of b s parent) _ (spot_goes local b s name parent options t may) (λ spot spot_is.
-    let is : IsSpot b local parent spot = IfOk-at_ok (IsSpot b local parent) spot_is (spot_ok local b s parent t) in
+    let is : IsPosition b local parent spot = IfOk-at_ok (IsPosition b local parent) spot_is (spot_ok local b s parent t) in
     go_then (set_options (scope_of b s) unset options) _
     (set_goes (scope_of b s) options _ all (subst (λ n. AreRates n options) t.rate may.rates) (omega (arith, may.default, t.chosen))) (λ settings set_is.
     let set : AreSet b s options settings = IfOk-at_ok (AreSet b s options) set_is (set_ok (scope_of b s) options _ all) in
@@ -176,7 +176,7 @@ shape_goes local b s name parent t whole up may =
     (rate_goes b.kind b s spot settings options set (null_or_not b parent spot.parent (has_own b.kind options) is.place may.own)) (λ rate e.
     (_, refl)))))))
 
-class_goes : (before : List Saying) (state : List Begun) (kind : Kind) (s : Statement) (i name parent : List ℕ) → Told before state → s.fault ≡ None
+class_goes : (before : List Saying) (state : List Begun) (kind : Kind) (s : Statement) (i name parent : List ℕ) → StateStands before state → s.fault ≡ None
     → name_at s.items 0 ≡ Some i → name_at s.items 1 ≡ Some name → name_at s.items 2 ≡ Some parent
     → MayBeClass (said_of i before) kind name parent (drop 3 s.items) → Goes (read_class state kind s)
 class_goes before state kind s i name parent t whole i_is here up may =
@@ -219,7 +219,7 @@ names local b class t may =
     outer Hfsc h = h refl
     outer Cbq h = refl
 
-filter_goes : (before : List Saying) (state : List Begun) (s : Statement) (i class : List ℕ) → Told before state → s.fault ≡ None
+filter_goes : (before : List Saying) (state : List Begun) (s : Statement) (i class : List ℕ) → StateStands before state → s.fault ≡ None
     → name_at s.items 0 ≡ Some i → name_at s.items 1 ≡ Some class → MayBeFilter (said_of i before) class → Goes (read_filter state s)
 filter_goes before state s i class t whole i_is here may =
     let f = finds_begun before state i may.named.kind t may.named.said in
@@ -238,7 +238,7 @@ filter_goes before state s i class t whole i_is here may =
     go_refuse (is_hfsc b.kind && c.q.inner) _ _ n.outer (
     go_own s.fault _ whole (_, refl))))))) (λ x e. (_, refl)))))
 
-conditioner_goes : (before : List Saying) (state : List Begun) (s : Statement) (i class : List ℕ) → Told before state → s.fault ≡ None
+conditioner_goes : (before : List Saying) (state : List Begun) (s : Statement) (i class : List ℕ) → StateStands before state → s.fault ≡ None
     → name_at s.items 0 ≡ Some i → name_at s.items 1 ≡ Some class → MayBeConditioner (said_of i before) class → Goes (read_conditioner state s)
 conditioner_goes before state s i class t whole i_is here may =
     let f = finds_begun before state i may.named.kind t may.named.said in
@@ -262,7 +262,7 @@ whole_said : (o : Option ConfPlace) (said : Option Saying) (y : Saying) → unle
 whole_said None said y e = (refl, e)
 whole_said (Some fault) said y e = absurd cc
 
-interface_by : (before : List Saying) (state : List Begun) (s : Statement) (y : Saying) → Told before state → s.fault ≡ None → (a : Option (List ℕ))
+interface_by : (before : List Saying) (state : List Begun) (s : Statement) (y : Saying) → StateStands before state → s.fault ≡ None → (a : Option (List ℕ))
     (k : Option Kind) (n : ℕ) → name_at s.items 0 ≡ a → kind_by_options None (drop 1 s.items) ≡ k → interface_said a k n ≡ Some y → MayBeSaid before y
     → Goes (read_interface state s)
 interface_by before state s y t whole (Some name) (Some kind) n e f said may =
@@ -271,7 +271,7 @@ interface_by before state s y t whole (Some name) (Some kind) n e f said may =
 interface_by before state s y t whole (Some name) None n e f said may = absurd cc
 interface_by before state s y t whole None k n e f said may = absurd cc
 
-class_by : (before : List Saying) (state : List Begun) (kind : Kind) (s : Statement) (y : Saying) → Told before state → s.fault ≡ None
+class_by : (before : List Saying) (state : List Begun) (kind : Kind) (s : Statement) (y : Saying) → StateStands before state → s.fault ≡ None
     → (a b c : Option (List ℕ)) → name_at s.items 0 ≡ a → name_at s.items 1 ≡ b → name_at s.items 2 ≡ c
     → class_said kind a b c (drop 3 s.items) ≡ Some y → MayBeSaid before y → Goes (read_class state kind s)
 class_by before state kind s y t whole (Some i) (Some name) (Some parent) e f g said may =
@@ -281,21 +281,21 @@ class_by before state kind s y t whole (Some i) (Some name) None e f g said may 
 class_by before state kind s y t whole (Some i) None c e f g said may = absurd cc
 class_by before state kind s y t whole None b c e f g said may = absurd cc
 
-filter_by : (before : List Saying) (state : List Begun) (s : Statement) (y : Saying) → Told before state → s.fault ≡ None → (a b : Option (List ℕ))
+filter_by : (before : List Saying) (state : List Begun) (s : Statement) (y : Saying) → StateStands before state → s.fault ≡ None → (a b : Option (List ℕ))
     → name_at s.items 0 ≡ a → name_at s.items 1 ≡ b → filter_said a b ≡ Some y → MayBeSaid before y → Goes (read_filter state s)
 filter_by before state s y t whole (Some i) (Some class) e f said may =
     let same : y ≡ Filter i class = cc in filter_goes before state s i class t whole e f (subst (MayBeSaid before) same may)
 filter_by before state s y t whole (Some i) None e f said may = absurd cc
 filter_by before state s y t whole None b e f said may = absurd cc
 
-conditioner_by : (before : List Saying) (state : List Begun) (s : Statement) (y : Saying) → Told before state → s.fault ≡ None → (a b : Option (List ℕ))
+conditioner_by : (before : List Saying) (state : List Begun) (s : Statement) (y : Saying) → StateStands before state → s.fault ≡ None → (a b : Option (List ℕ))
     → name_at s.items 0 ≡ a → name_at s.items 1 ≡ b → conditioner_said a b ≡ Some y → MayBeSaid before y → Goes (read_conditioner state s)
 conditioner_by before state s y t whole (Some i) (Some class) e f said may =
     let same : y ≡ Conditioner i class = cc in conditioner_goes before state s i class t whole e f (subst (MayBeSaid before) same may)
 conditioner_by before state s y t whole (Some i) None e f said may = absurd cc
 conditioner_by before state s y t whole None b e f said may = absurd cc
 
-pub statement_goes : (before : List Saying) (state : List Begun) (s : Statement) (y : Saying) → Told before state → saying s ≡ Some y
+pub statement_goes : (before : List Saying) (state : List Begun) (s : Statement) (y : Saying) → StateStands before state → saying s ≡ Some y
     → MayBeSaid before y → Goes (read_statement state s)
 statement_goes before state s y t says may = let w = whole_said s.fault (said_by s.form s.items) y says in go w.0 s.form w.1
   where

@@ -12,7 +12,7 @@ use Rattle.conf_lines.specs.Options.{most_rate}
 use Rattle.conf_tree.specs.Items.{number_behind, word_at}
 use Rattle.conf_tree.specs.Options.{set_by_word, set_options}
 use Rattle.conf_tree.specs.Settings.{curve_behind, percent, set_default, set_option, set_percent}
-use Rattle.conf_laws.proofs.Types.{Scope, Settings}
+use Rattle.conf_laws.proofs.Types.{ReadContext, Settings}
 use Rattle.conf_tree_grammar.specs.Options.{AreRates, IsRateIfAny, IsRateOfKey, IsRateOfWord, defaults, defaults_of_key, defaults_of_word, has_rate, has_share, key_rates, key_shares, stays_after, stays_by_key, stays_by_word, word_rates, word_shares}
 
 -- a truth as a number
@@ -41,7 +41,7 @@ or_mapped f (Some o) None = refl
 or_mapped f (Some o) (Some x) = refl
 
 -- WHAT ONE WORD SETS
-pub record Sets (scope : Scope) (s t : Settings) (shares rates stay : Bool) (more : ℕ) (AreFit : Type 0) : Type 0 where
+pub record Sets (scope : ReadContext) (s t : Settings) (shares rates stay : Bool) (more : ℕ) (AreFit : Type 0) : Type 0 where
   pub share : is_some t.share ≡ (is_some s.share || shares)
   pub rate : is_some t.rate ≡ (is_some s.rate || rates)
   pub stays : t.fixed ≡ stay
@@ -49,10 +49,10 @@ pub record Sets (scope : Scope) (s t : Settings) (shares rates stay : Bool) (mor
   pub few : more + (count_of s.is_default + count_of scope.chosen) ≤ 1
   pub fit : AreFit
 
-abbrev pub AreFew : Scope → Settings → ℕ → Type 0
+abbrev pub AreFew : ReadContext → Settings → ℕ → Type 0
 AreFew scope s more = more + (count_of s.is_default + count_of scope.chosen) ≤ 1
 
-abbrev ByKey : Scope → Settings → Key → List Item → Result Settings ConfPlace → Type 0
+abbrev ByKey : ReadContext → Settings → Key → List Item → Result Settings ConfPlace → Type 0
 ByKey scope s key items r =
     elim r [
       | Ok t ↦ Sets scope s t (key_shares key items) (key_rates key items) (stays_by_key s.fixed key) (defaults_of_key key) (IsRateOfKey scope.rate key items)
@@ -63,14 +63,14 @@ or_some : (b : Bool) → true ≡ (b || true)
 or_some false = refl
 or_some true = refl
 
-abbrev ByPercent : Scope → Settings → Option ℕ → Result Settings ConfPlace → Type 0
+abbrev ByPercent : ReadContext → Settings → Option ℕ → Result Settings ConfPlace → Type 0
 ByPercent scope s o r =
     elim r [
       | Ok t ↦ Sets scope s t false (is_some o) s.fixed 0 (IsRateIfAny scope.rate o)
       | Err fault ↦ IsRateIfAny scope.rate o → AreFew scope s 0 → ⊥
     ]
 
-percent_in : (scope : Scope) (s : Settings) (n : ℕ) (fault : ConfPlace) → AreFew scope s 0 → (a b : Bool) → nat_le 1000 (percent scope.rate n) ≡ a
+percent_in : (scope : ReadContext) (s : Settings) (n : ℕ) (fault : ConfPlace) → AreFew scope s 0 → (a b : Bool) → nat_le 1000 (percent scope.rate n) ≡ a
     → nat_le (percent scope.rate n) most_rate ≡ b
     → ByPercent scope s (Some n) (cond (a && b) (Ok (record s { rate = Some (percent scope.rate n) })) (Err fault))
 percent_in scope s n fault few true true e f = record {
@@ -84,7 +84,7 @@ percent_in scope s n fault few true true e f = record {
 percent_in scope s n fault few true false e f = λ fit h. grind (arith, nat_tests, f, fit.1)
 percent_in scope s n fault few false b e f = λ fit h. grind (arith, nat_tests, e, fit.0)
 
-percent_by : (scope : Scope) (s : Settings) (word : ℕ) → AreFew scope s 0 → (o : Option ℕ) → ByPercent scope s o (set_percent scope s word o)
+percent_by : (scope : ReadContext) (s : Settings) (word : ℕ) → AreFew scope s 0 → (o : Option ℕ) → ByPercent scope s o (set_percent scope s word o)
 percent_by scope s word few None = record {
   share = or_none (is_some s.share);
   rate = or_none (is_some s.rate);
@@ -95,7 +95,7 @@ percent_by scope s word few None = record {
 }
 percent_by scope s word few (Some n) = percent_in scope s n _ few _ _ refl refl
 
-default_by : (scope : Scope) (s : Settings) (word : ℕ) (items : List Item) → (a b : Bool) → scope.chosen ≡ a → s.is_default ≡ b
+default_by : (scope : ReadContext) (s : Settings) (word : ℕ) (items : List Item) → (a b : Bool) → scope.chosen ≡ a → s.is_default ≡ b
     → ByKey scope s key.Default items (set_default scope s word)
 default_by scope s word items true b e f = rw e (λ fit few. let one : count_of scope.chosen ≡ 1 = rw e refl in omega (arith, few, one))
 default_by scope s word items false true e f =
@@ -105,7 +105,7 @@ default_by scope s word items false false e f =
     let free : count_of scope.chosen ≡ 0 = rw e refl in
     rw (e, f) (record { share = or_none (is_some s.share); rate = or_none (is_some s.rate); stays = refl; default = omega (arith, none); few = omega (arith, none, free); fit = tt })
 
-key_by : (scope : Scope) (s : Settings) (word : ℕ) (option : Key) (items : List Item) → AreFew scope s 0
+key_by : (scope : ReadContext) (s : Settings) (word : ℕ) (option : Key) (items : List Item) → AreFew scope s 0
     → ByKey scope s option items (set_option scope s word option items)
 key_by scope s word key.Sc items few = record {
   share = or_given (curve_behind key.Sc items) s.share;
@@ -158,14 +158,14 @@ key_by scope s word _ items few = record {
   fit = tt;
 }
 
-abbrev ByWord : Scope → Settings → What → List Item → Result Settings ConfPlace → Type 0
+abbrev ByWord : ReadContext → Settings → What → List Item → Result Settings ConfPlace → Type 0
 ByWord scope s says items r =
     elim r [
       | Ok t ↦ Sets scope s t (word_shares says items) (word_rates says items) (stays_by_word s.fixed says) (defaults_of_word says) (IsRateOfWord scope.rate says items)
       | Err fault ↦ IsRateOfWord scope.rate says items → AreFew scope s (defaults_of_word says) → ⊥
     ]
 
-word_by : (scope : Scope) (s : Settings) (word : ℕ) (says : What) (items : List Item) → AreFew scope s 0
+word_by : (scope : ReadContext) (s : Settings) (word : ℕ) (says : What) (items : List Item) → AreFew scope s 0
     → ByWord scope s says items (set_by_word scope s word says items)
 word_by scope s word (what.Key option) items few = key_by scope s word option items few
 word_by scope s word _ items few = record {
@@ -178,14 +178,14 @@ word_by scope s word _ items few = record {
 }
 
 -- WHAT ALL OF THEM SET
-abbrev pub ByAll : Scope → Settings → List Item → Result Settings ConfPlace → Type 0
+abbrev pub ByAll : ReadContext → Settings → List Item → Result Settings ConfPlace → Type 0
 ByAll scope s items r =
     elim r [
       | Ok t ↦ Sets scope s t (has_share items) (has_rate items) (stays_after s.fixed items) (defaults items) (AreRates scope.rate items)
       | Err fault ↦ AreRates scope.rate items → AreFew scope s (defaults items) → ⊥
     ]
 
-pub all_by : (scope : Scope) (s : Settings) (items : List Item) → AreFew scope s 0 → ByAll scope s items (set_options scope s items)
+pub all_by : (scope : ReadContext) (s : Settings) (items : List Item) → AreFew scope s 0 → ByAll scope s items (set_options scope s items)
 all_by scope s [] few = record {
   share = or_none (is_some s.share);
   rate = or_none (is_some s.rate);

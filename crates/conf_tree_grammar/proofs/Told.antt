@@ -52,12 +52,12 @@ abbrev pub Apart : List Begun → Type 0
 Apart [] = Unit {0}
 Apart (b ∷ bs) = (named interface_name b.name bs ≡ None) × Apart bs
 
-pub record Told (before : List Saying) (state : List Begun) : Type 0 where
+pub record StateStands (before : List Saying) (state : List Begun) : Type 0 where
   pub count : length state ≡ interfaces before
   pub apart : Apart state
   pub each : (x : List ℕ) → BegunTold (said_of x before) (named interface_name x state)
 
-pub nothing_told : Told [] []
+pub nothing_told : StateStands [] []
 nothing_told = record { count = refl; apart = tt; each = λ x. refl }
 
 -- A CLASS MORE
@@ -233,9 +233,9 @@ apart_set x _ _ b c (there y bs j z e f) same a =
     go true h = let yes : bytes_eq x y.name ≡ true = (bytes_eq-Decides x y.name).1 (sym (equal_names y.name x h)) in absurd cc
     go false h = refl
 
-pub changed_told : (before : List Saying) (state : List Begun) (y : Saying) (i : List ℕ) (j : ℕ) (b c : Begun) → Told before state
+pub changed_told : (before : List Saying) (state : List Begun) (y : Saying) (i : List ℕ) (j : ℕ) (b c : Begun) → StateStands before state
     → First interface_name i state j b → c.name ≡ i → interface_of y ≡ i → interfaces (y ∷ before) ≡ interfaces before
-    → TellsBegun (y ∷ said_of i before) c → Told (y ∷ before) (slice_set state j c)
+    → TellsBegun (y ∷ said_of i before) c → StateStands (y ∷ before) (slice_set state j c)
 changed_told before state y i j b c t first same of count tells = record {
   count = length-set state j c ∙ t.count ∙ sym count;
   apart = apart_set i state j b c first same t.apart;
@@ -271,8 +271,8 @@ apart_push (y ∷ bs) b a e = go (bytes_eq b.name y.name) refl e (apart_push bs 
     go true h k ih = absurd cc
     go false h k ih = (rw (named_push interface_name y.name bs b, a.0) (other (bytes_eq y.name b.name) refl h), ih k)
 
-pub new_told : (before : List Saying) (state : List Begun) (line : ℕ) (name : List ℕ) (kind : Kind) (rate : ℕ) → Told before state
-    → named interface_name name state ≡ None → Told (Interface name kind rate ∷ before) (state ++ begun line name rate kind ∷ [])
+pub new_told : (before : List Saying) (state : List Begun) (line : ℕ) (name : List ℕ) (kind : Kind) (rate : ℕ) → StateStands before state
+    → named interface_name name state ≡ None → StateStands (Interface name kind rate ∷ before) (state ++ begun line name rate kind ∷ [])
 new_told before state line name kind rate t new = record {
   count = omega (arith, length-append state (begun line name rate kind ∷ []), t.count);
   apart = apart_push state (begun line name rate kind) t.apart new;

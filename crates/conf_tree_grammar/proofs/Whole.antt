@@ -15,7 +15,7 @@ use Rattle.conf_tree_grammar.proofs.Accepts.{Accepts, statement_accepted}
 use Rattle.conf_tree_grammar.proofs.Goes.{Goes, statement_goes}
 use Rattle.conf_tree_grammar.proofs.Lookups.{equal_names, named, same_name}
 use Rattle.conf_tree_grammar.proofs.OptionsSet.{count_of}
-use Rattle.conf_tree_grammar.proofs.Told.{Apart, BegunTold, TellsBegun, Told, nothing_told}
+use Rattle.conf_tree_grammar.proofs.Told.{Apart, BegunTold, TellsBegun, StateStands, nothing_told}
 
 -- THE END: each interface that is found is decided exactly where all of them are
 decided_found : (x : List ℕ) (state : List Begun) (b : Begun) → first_undecided state ≡ None → named interface_name x state ≡ Some b → undecided b ≡ false
@@ -65,14 +65,14 @@ decided_by b local t h = go (length b.classes == 0) b.chosen refl refl
         let none : count_of b.chosen ≡ 0 = rw g refl in
         absurd (omega (arith, one, none, t.chosen))
 
-defaults_stand : (before : List Saying) (state : List Begun) → Told before state → first_undecided state ≡ None → HaveDefaults before
+defaults_stand : (before : List Saying) (state : List Begun) → StateStands before state → first_undecided state ≡ None → HaveDefaults before
 defaults_stand before state t e name some = go (named interface_name name state) refl (t.each name)
   where
     go : (w : Option Begun) → named interface_name name state ≡ w → BegunTold (said_of name before) w → all_defaults (said_of name before) ≡ 1
     go None f h = let none : classes (said_of name before) ≡ 0 = ap classes h in absurd (omega (arith, none, some))
     go (Some b) f h = one_default b (said_of name before) h (decided_found name state b e f) some
 
-end_goes : (before : List Saying) (state : List Begun) → Told before state → HaveDefaults before → first_undecided state ≡ None
+end_goes : (before : List Saying) (state : List Begun) → StateStands before state → HaveDefaults before → first_undecided state ≡ None
 end_goes before state t h = all_decided state t.apart (λ x b f. decided_by b (said_of x before) (subst (BegunTold (said_of x before)) f (t.each x)) (h x))
 
 finished_ok : (state : List Begun) (o : Option ConfPlace) (interfaces : List interface_type.Interface) → finished_unless state o ≡ Ok interfaces → o ≡ None
@@ -88,7 +88,7 @@ record AcceptedFrom (before : List Saying) (statements : List Statement) : Type 
 abbrev then_read : List Statement → Result (List Begun) ConfPlace → Result (List interface_type.Interface) ConfPlace
 then_read statements r = elim r [ Ok after ↦ reading_from after statements | Err fault ↦ Err fault ]
 
-accepted_from : (before : List Saying) (state : List Begun) (statements : List Statement) (interfaces : List interface_type.Interface) → Told before state
+accepted_from : (before : List Saying) (state : List Begun) (statements : List Statement) (interfaces : List interface_type.Interface) → StateStands before state
     → reading_from state statements ≡ Ok interfaces → AcceptedFrom before statements
 accepted_from before state [] interfaces t e =
     record { sayings = []; said = tt; tree = defaults_stand before state t (finished_ok state (first_undecided state) interfaces e) }
@@ -97,7 +97,7 @@ accepted_from before state (s ∷ statements) interfaces t e =
   where
     go : (r : Result (List Begun) ConfPlace) → IfOk r (Accepts before s)
         → then_read statements r ≡ Ok interfaces
-        → ((more : List Saying) (after : List Begun) → Told more after → reading_from after statements ≡ Ok interfaces → AcceptedFrom more statements)
+        → ((more : List Saying) (after : List Begun) → StateStands more after → reading_from after statements ≡ Ok interfaces → AcceptedFrom more statements)
         → AcceptedFrom before (s ∷ statements)
     go (Ok after) h e ih =
         let rest = ih (h.said ∷ before) after h.told e in
@@ -109,7 +109,7 @@ goes_then : (statements : List Statement) (r : Result (List Begun) ConfPlace) (a
 goes_then statements (Ok other) after e h = let same : other ≡ after = cc in rw same h
 goes_then statements (Err fault) after e h = absurd cc
 
-goes_from : (before : List Saying) (state : List Begun) (statements : List Statement) (sayings : List Saying) → Told before state
+goes_from : (before : List Saying) (state : List Begun) (statements : List Statement) (sayings : List Saying) → StateStands before state
     → Say statements sayings → IsTreeFrom before sayings → Goes (reading_from state statements)
 goes_from before state [] [] t said tree = (map whole state, rw (end_goes before state t tree) refl)
 goes_from before state [] (y ∷ sayings) t said tree = absurd said
@@ -118,7 +118,7 @@ goes_from before state (s ∷ statements) (y ∷ sayings) t said tree =
     let g = statement_goes before state s y t said.0 tree.0 in
     let a : Accepts before s g.0 = IfOk-at_ok (Accepts before s) g.1 (statement_accepted before state s t) in
     let same : a.said ≡ y = one a.said y (sym a.says ∙ said.0) in
-    let told : Told (y ∷ before) g.0 = subst (λ x. Told (x ∷ before) g.0) same a.told in
+    let told : StateStands (y ∷ before) g.0 = subst (λ x. StateStands (x ∷ before) g.0) same a.told in
     goes_then statements (read_statement state s) g.0 g.1 (goes_from (y ∷ before) g.0 statements sayings told said.1 tree.1)
   where
     one : (a b : Saying) → Some a ≡ Some b → a ≡ b

@@ -7,7 +7,7 @@ use Rattle.service_curve.specs.declared.Curve.{Curve}
 use Rattle.service_curve.specs.Curve.{amount, first, time_at}
 use Rattle.runtime_curve.specs.Opening.{Reaches, opening}
 use Rattle.altq_model.specs.Busy.{IsBusy}
-use Rattle.altq_model.specs.History.{Arrival, Event, Offered, Sent, Happened, bare, offered}
+use Rattle.altq_model.specs.History.{Arrival, Event, Offered, Sent, LabelledEvent, unlabelled, offered}
 use Rattle.altq_model.specs.Lawful.{AreRising, IsLawful}
 use Rattle.altq_model.specs.Link.{HasLinkEnds}
 use Rattle.altq_model.specs.Play.{Policy, AreDue}
@@ -103,22 +103,22 @@ histories_keep cs answer rate h z k o e b fit =
     keeps_bounds cs rate h z (orderly_rise (hfsc_policy cs answer) h o) (timely_in_order cs answer rate h z k o e b fit)
 
 module _ (p : Policy) (rate seed : ℕ) (arrived : List Arrival) (pos : 0 < rate) (law : IsLawful p) (rise : AreRising arrived) where
-  event_rises : (g : List Happened) (e : Happened) → IsOffer p rate seed arrived g e ⊎ IsSending p rate arrived g e → IsOnTime p rate arrived (bare g)
-      → OffersRise (bare g) → OffersRise (bare (e ∷ g))
+  event_rises : (g : List LabelledEvent) (e : LabelledEvent) → IsOffer p rate seed arrived g e ⊎ IsSending p rate arrived g e → IsOnTime p rate arrived (unlabelled g)
+      → OffersRise (unlabelled g) → OffersRise (unlabelled (e ∷ g))
   event_rises g e (inl x) t r =
-      subst (λ (z : Event). OffersRise (z ∷ bare g)) (sym (offer_event p rate seed arrived g e x)) (t.comes (offered (bare g)) x.packet (omega arith) x.next, r)
-  event_rises g e (inr y) t r = subst (λ (z : Event). OffersRise (z ∷ bare g)) (sym y.event) r
+      subst (λ (z : Event). OffersRise (z ∷ unlabelled g)) (sym (offer_event p rate seed arrived g e x)) (t.comes (offered (unlabelled g)) x.packet (omega arith) x.next, r)
+  event_rises g e (inr y) t r = subst (λ (z : Event). OffersRise (z ∷ unlabelled g)) (sym y.event) r
 
-  due_rise : (g : List Happened) → AreDue p rate seed arrived g → OffersRise (bare g)
+  due_rise : (g : List LabelledEvent) → AreDue p rate seed arrived g → OffersRise (unlabelled g)
   due_rise [] d = tt
   due_rise (e ∷ g) d =
       let t = on_time p rate seed arrived g pos law rise d.1 in
       event_rises g e (follows p rate seed arrived g e law t d.0) t (due_rise g d.1)
 
 pub plays_keep : (cs : List HfscClass) (answer : Answering) (rate seed : ℕ) (arrived : List Arrival) → 0 < rate → IsClassTree cs → AreSized arrived
-    → (g : List Happened) → AreRising arrived → AreDue (hfsc_policy cs answer) rate seed arrived g → FitLink rate (reals cs) → KeepsBounds cs rate (bare g)
+    → (g : List LabelledEvent) → AreRising arrived → AreDue (hfsc_policy cs answer) rate seed arrived g → FitLink rate (reals cs) → KeepsBounds cs rate (unlabelled g)
 plays_keep cs answer rate seed arrived z k sized g rise d fit =
-    keeps_bounds cs rate (bare g) z (due_rise (hfsc_policy cs answer) rate seed arrived z (lawful cs answer k) rise g d)
+    keeps_bounds cs rate (unlabelled g) z (due_rise (hfsc_policy cs answer) rate seed arrived z (lawful cs answer k) rise g d)
     (play_timely cs answer rate seed arrived z k sized g rise d fit)
 
 pub bound_is_there : (s : Curve) (link_rate most burst : ℕ) → 0 < s.m2 → IsSome (bound s link_rate most burst)

@@ -2,7 +2,7 @@
 use Rattle.std.proofs.Common.{◌≡◌, ◌≤◌, ◌+◌, ◌-◌, ◌*◌, ℕ, List, [], ◌∷◌, ◌++◌, append_assoc, refl, ap, sym, arith, ◌∙◌}
 use Rattle.play_base.specs.Units.{units}
 use Rattle.traffic_meter.specs.Conforming.{Conforms, amount, earliest}
-use Rattle.traffic_meter.specs.History.{Metered, IsInOrder, latest}
+use Rattle.traffic_meter.specs.History.{Metered, ArrivalsAreInOrder, latest}
 
 -- with `sofar` units of newer packets up to the moment t, each older packet keeps to a rate and a burst
 abbrev pub Within : (rate burst t sofar : ℕ) → List Metered → Type 0
@@ -24,7 +24,7 @@ abbrev ComeBy : ℕ → List Metered → Type 0
 ComeBy t [] = Unit {0}
 ComeBy t (x ∷ xs) = (x.moment ≤ t) × ComeBy t xs
 
-come_by : (t : ℕ) (xs : List Metered) → latest xs ≤ t → IsInOrder xs → ComeBy t xs
+come_by : (t : ℕ) (xs : List Metered) → latest xs ≤ t → ArrivalsAreInOrder xs → ComeBy t xs
 come_by t [] h o = tt
 come_by t (x ∷ xs) h o = (h, come_by t xs (omega (arith, o.0)) o.1)
 
@@ -60,7 +60,7 @@ front_keeps rate burst x xs c = λ s older z e.
     let two = ap (λ n. rate * n) time in
     omega arith
 
-pub conforming_keep : (rate burst : ℕ) (xs : List Metered) → IsInOrder xs → Conforms rate burst xs → Keep rate burst xs
+pub conforming_keep : (rate burst : ℕ) (xs : List Metered) → ArrivalsAreInOrder xs → Conforms rate burst xs → Keep rate burst xs
 conforming_keep rate burst [] o c = tt
 conforming_keep rate burst (x ∷ xs) o c = (
   each_within rate burst x.moment 0 (x ∷ xs) (come_by x.moment (x ∷ xs) (omega arith) o) (front_keeps rate burst x xs c),

@@ -2,7 +2,7 @@
 use Rattle.std.proofs.Common.{◌≡◌, ◌≤◌, ◌+◌, ℕ, Bool, true, false, List, [], ◌∷◌, ◌++◌, drop, map, refl, ap, subst, sym, arith, ◌∙◌}
 use Rattle.std.specs.Prelude.{◌==◌, if◌then◌else◌}
 use Rattle.play_base.specs.Units.{units}
-use Rattle.traffic_meter.specs.History.{Metered, IsInOrder, latest}
+use Rattle.traffic_meter.specs.History.{Metered, ArrivalsAreInOrder, latest}
 use Rattle.altq_model.specs.History.{Event, Offered, Sent, is_kept}
 use Rattle.altq_model.specs.Lawful.{latest as greatest}
 use Rattle.hfsc_model.specs.Event.{HfscHistory, Enqueued, Sent as HfscSent}
@@ -119,11 +119,11 @@ offers_late c (Offered a w v ∷ h) = go (a.class == c) (offers_late c h)
     go true l = omega arith
     go false l = omega (arith, l)
 
-pub offers_in_order : (c : ℕ) (h : List Event) → OffersRise h → IsInOrder (offers_in c h)
+pub offers_in_order : (c : ℕ) (h : List Event) → OffersRise h → ArrivalsAreInOrder (offers_in c h)
 offers_in_order c [] o = tt
 offers_in_order c (Sent s ∷ h) o = offers_in_order c h o
 offers_in_order c (Offered a w v ∷ h) o = go (a.class == c) (offers_late c h) (offers_in_order c h o.1)
   where
-    go : (b : Bool) → latest (offers_in c h) ≤ greatest h → IsInOrder (offers_in c h) → IsInOrder (if b then metered a ∷ offers_in c h else offers_in c h)
+    go : (b : Bool) → latest (offers_in c h) ≤ greatest h → ArrivalsAreInOrder (offers_in c h) → ArrivalsAreInOrder (if b then metered a ∷ offers_in c h else offers_in c h)
     go true l i = (omega (arith, l, o.0), i)
     go false l i = i

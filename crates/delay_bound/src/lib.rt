@@ -6,7 +6,7 @@
 
 ghost use Rattle.std.specs.Prelude.{◌<◌, ℕ, List, IsSome};
 ghost use Rattle.altq_model.specs.Busy.{IsBusy};
-ghost use Rattle.altq_model.specs.History.{Arrival, Event, Happened, bare};
+ghost use Rattle.altq_model.specs.History.{Arrival, Event, LabelledEvent, unlabelled};
 ghost use Rattle.altq_model.specs.Lawful.{AreRising};
 ghost use Rattle.altq_model.specs.Link.{HasLinkEnds};
 ghost use Rattle.altq_model.specs.Play.{AreDue};
@@ -39,7 +39,7 @@ pub fn packets_keep_their_bounds()
         → IsOrderly (hfsc_policy cs answer) h → HasLinkEnds rate h → IsBusy (hfsc_policy cs answer) rate h → FitLink rate (reals cs)
         → KeepsBounds cs rate h }
     ensures plays { (cs : List HfscClass) (answer : Answering) (rate seed : ℕ) (arrived : List Arrival) → 0 < rate → IsClassTree cs
-        → AreSized arrived → (g : List Happened) → AreRising arrived → AreDue (hfsc_policy cs answer) rate seed arrived g
-        → FitLink rate (reals cs) → KeepsBounds cs rate (bare g) }
+        → AreSized arrived → (g : List LabelledEvent) → AreRising arrived → AreDue (hfsc_policy cs answer) rate seed arrived g
+        → FitLink rate (reals cs) → KeepsBounds cs rate (unlabelled g) }
     ensures there { (s : Curve) (rate most burst : ℕ) → 0 < s.m2 → IsSome (bound s rate most burst) }
 {}

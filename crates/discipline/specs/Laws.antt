@@ -3,7 +3,7 @@ use Rattle.std.specs.Prelude.{◌≡◌, ◌≤◌, ◌<◌, ◌==◌, ◌+◌, 
 use Rattle.std.specs.declared.option.Option.{Option}
 use Rattle.play_base.specs.declared.packet.Ticket.{Ticket}
 use Rattle.altq_model.specs.declared.Verdict.{Verdict}
-use Rattle.altq_model.specs.History.{Arrival, DrawnWords, Event, Offered, Sent, Happened, bare, labels, waiting, with_offer, without_head}
+use Rattle.altq_model.specs.History.{Arrival, DrawnWords, Event, Offered, Sent, LabelledEvent, unlabelled, labels, waiting, with_offer, without_head}
 use Rattle.altq_model.specs.Laws.{occurs}
 use Rattle.altq_model.specs.Play.{Policy}
 use Rattle.altq_model.specs.Lawful.{first_at}
@@ -47,11 +47,11 @@ pub record IsAnswer (p : Policy) (h : List Event) (old : DrawnWords) (a : Arriva
   pub words : Drew old new (p.answer h old a).took
 
 -- the offer of a packet under a ticket, as a history has it
-abbrev pub offer_of : Policy → List Happened → Ticket → DrawnWords → Arrival → Happened
-offer_of p h ticket w a = record { label = ticket.0; what = Offered a w (p.answer (bare h) w a) }
+abbrev pub offer_of : Policy → List LabelledEvent → Ticket → DrawnWords → Arrival → LabelledEvent
+offer_of p h ticket w a = record { label = ticket.0; what = Offered a w (p.answer (unlabelled h) w a) }
 
 -- a sending, as a history has it
-abbrev pub sent_of : Sending → Happened
+abbrev pub sent_of : Sending → LabelledEvent
 sent_of s = record {
   label = s.ticket.0;
   what = Sent (record { class = s.class; len = s.len; rule = s.rule; start = s.start; end = s.end });
@@ -99,9 +99,9 @@ seen_of [] = []
 seen_of (a ∷ ws) = (a.len, a.prec) ∷ seen_of ws
 
 -- a list is what waits in its class after a history
-pub record Shows (c : ℕ) (xs : List Entry) (h : List Happened) : Type 0 where
+pub record Shows (c : ℕ) (xs : List Entry) (h : List LabelledEvent) : Type 0 where
   pub labels : tickets xs ≡ labels c h
-  pub packets : seen xs ≡ seen_of (waiting c (bare h))
+  pub packets : seen xs ≡ seen_of (waiting c (unlabelled h))
 
 -- what is due after a history at a moment is the policy's: nothing where nothing waits; a sending of the pick's class and by its
 -- rule where the first moment at which a class may send is now; else a wait till that moment

@@ -17,5 +17,6 @@ pub fn gap_of_two_leaves()
     ensures first { work quarters (Sent 1 1000 false 0 ∷ []) 1 * 6000000 ≡ 4000000 * (2000000 * 6000000) }
     ensures second { work quarters (Sent 1 1000 false 0 ∷ []) 2 ≡ 0 }
     ensures none_sent { most_step quarters (kept 3 1 0 1000 []) 0 ≡ 0 }
-    ensures bent { most_step (root ∷ child None (straight 2000000) None ∷ child None (curve 0 5000000 4000000) None ∷ []) (Sent 1 1000 false 0 ∷ []) 0 ≡ 7000000 }
+    ensures bent { most_step (root ∷ child None (straight 2000000) None ∷ child None (curve 0 5000000 4000000) None ∷ [])
+        (Sent 1 1000 false 0 ∷ []) 0 ≡ 7000000 }
 {}

@@ -89,9 +89,12 @@ impl Left {
         requires rising { AreRising (bare_arrivals arrived.now) }
         requires count { vec_len self.old.gone ≡ length arrived.now }
         ensures count { vec_len self.new.gone ≡ vec_len self.old.gone }
-        ensures passes { result ≡ true → (rows before : List Row) → IsLeft (length arrived.now) rows before self.old → StartsAtOnce (bare_arrivals arrived.now) rows before row.now }
-        ensures stands { result ≡ true → (rows before : List Row) → IsLeft (length arrived.now) rows before self.old → IsLeft (length arrived.now) rows (row.now ∷ before) self.new }
-        ensures fails { result ≡ false → (rows before : List Row) → IsLeft (length arrived.now) rows before self.old → ¬ StartsAtOnce (bare_arrivals arrived.now) rows before row.now }
+        ensures passes { result ≡ true → (rows before : List Row) → IsLeft (length arrived.now) rows before self.old
+            → StartsAtOnce (bare_arrivals arrived.now) rows before row.now }
+        ensures stands { result ≡ true → (rows before : List Row) → IsLeft (length arrived.now) rows before self.old
+            → IsLeft (length arrived.now) rows (row.now ∷ before) self.new }
+        ensures fails { result ≡ false → (rows before : List Row) → IsLeft (length arrived.now) rows before self.old
+            → ¬ StartsAtOnce (bare_arrivals arrived.now) rows before row.now }
     {
         let Fate::Sent { start, end, .. } = row.fate else {
             return true;

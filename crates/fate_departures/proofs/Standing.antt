@@ -9,7 +9,7 @@ use Rattle.fate_departures.specs.Departures.{AreDepartures, GoesOn, Leave, Leave
 use Rattle.fate_departures.specs.Frames.{Packets}
 
 -- what the rows before a place leave stands behind the header, and then the rest
-pub record Stands (dress : Dressing) (p : Packets) (rows : List Row) (i : ℕ) (departures rest : List ℕ) : Type 0 where
+pub record DeparturesStand (dress : Dressing) (p : Packets) (rows : List Row) (i : ℕ) (departures rest : List ℕ) : Type 0 where
   pub left : List ℕ
   pub whole : departures ≡ capture_header ++ (left ++ rest)
   pub passed : Leave dress p (take i rows) left
@@ -22,11 +22,11 @@ leave_more dress p (q ∷ rows) r left piece h l =
     (h.0, h.1 ++ piece, ap (λ (xs : List ℕ). xs ++ piece) h.2 ∙ append_assoc h.0 h.1 piece, h.3, leave_more dress p rows r h.1 piece h.4 l)
 
 pub stands_first : (dress : Dressing) (p : Packets) (rows : List Row) (departures rest : List ℕ) → departures ≡ capture_header ++ rest
-    → Stands dress p rows 0 departures rest
+    → DeparturesStand dress p rows 0 departures rest
 stands_first dress p rows departures rest e = record { left = []; whole = e; passed = refl }
 
 pub stands_more : (dress : Dressing) (p : Packets) (rows : List Row) (i : ℕ) (departures rest more : List ℕ) → i < length rows
-    → Stands dress p rows i departures rest → LeavesFront dress p (row_at rows i) rest more → Stands dress p rows (i + 1) departures more
+    → DeparturesStand dress p rows i departures rest → LeavesFront dress p (row_at rows i) rest more → DeparturesStand dress p rows (i + 1) departures more
 stands_more dress p rows i departures rest more lt s f =
     let P : List Row → Type 0 = λ xs. Leave dress p xs (s.left ++ f.piece) in
     record {
@@ -36,7 +36,7 @@ stands_more dress p rows i departures rest more lt s f =
     }
 
 pub stops : (dress : Dressing) (p : Packets) (rows : List Row) (i : ℕ) (departures rest : List ℕ) → i < length rows
-    → Stands dress p rows i departures rest → LeavesNoFront dress p (row_at rows i) rest → StopsAt dress p rows departures (i + 1)
+    → DeparturesStand dress p rows i departures rest → LeavesNoFront dress p (row_at rows i) rest → StopsAt dress p rows departures (i + 1)
 stops dress p rows i departures rest lt s none =
     let long : length (take i rows) ≡ i = length-take-le i rows (omega (arith, lt)) in
     record {
@@ -53,7 +53,7 @@ stops dress p rows i departures rest lt s none =
     }
 
 pub are_departures : (dress : Dressing) (p : Packets) (rows : List Row) (i : ℕ) (departures rest : List ℕ) → length rows ≤ i
-    → Stands dress p rows i departures rest → rest ≡ [] → AreDepartures dress p rows departures
+    → DeparturesStand dress p rows i departures rest → rest ≡ [] → AreDepartures dress p rows departures
 are_departures dress p rows i departures rest le s none =
     let P : List Row → Type 0 = λ xs. Leave dress p xs s.left in
     record {
@@ -63,7 +63,7 @@ are_departures dress p rows i departures rest le s none =
     }
 
 pub go_on : (dress : Dressing) (p : Packets) (rows : List Row) (i : ℕ) (departures rest : List ℕ) → length rows ≤ i
-    → Stands dress p rows i departures rest → 0 < length rest → GoesOn dress p rows departures (length rows + 1)
+    → DeparturesStand dress p rows i departures rest → 0 < length rest → GoesOn dress p rows departures (length rows + 1)
 go_on dress p rows i departures rest le s some =
     let P : List Row → Type 0 = λ xs. Leave dress p xs s.left in
     record {

@@ -64,7 +64,8 @@ fn behind_one<'a, C: Classify>(
     rest: &'a [u8],
 ) -> Result<Option<&'a [u8]>, NoMemory>
     requires { end < clock_end }
-    ensures { IfOk result (λ o. MatchOption o ((more : List ℕ) → rest.now ≡ record_text (leaving (C.dressed classify.now) (frames_in frames.now) row.now end marked) ++ more → ⊥)
+    ensures { IfOk result (λ o. MatchOption o ((more : List ℕ)
+        → rest.now ≡ record_text (leaving (C.dressed classify.now) (frames_in frames.now) row.now end marked) ++ more → ⊥)
         (λ more. rest.now ≡ record_text (leaving (C.dressed classify.now) (frames_in frames.now) row.now end marked) ++ more.now)) }
 {
     let frame = frames.frame(row.number);

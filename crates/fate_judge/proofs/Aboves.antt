@@ -12,7 +12,7 @@ use Rattle.fate_check.specs.declared.reading.Row.{Row}
 use Rattle.fate_judge.specs.declared.given.Allowed.{Allowed}
 use Rattle.fate_judge.specs.declared.order.Order.{Order}
 use Rattle.fate_judge.specs.Given.{decisions}
-use Rattle.fate_judge.specs.Order.{IsInOrder, IsOrder, above}
+use Rattle.fate_judge.specs.Order.{RowIsInOrder, IsOrder, above}
 use Rattle.fate_judge.specs.Reading.{IsOfArrival}
 
 below : (t : ℕ) (ns : List ℕ) → above ns ≤ t → AllBelow t ns
@@ -50,7 +50,7 @@ pub record MaySend (r : Row) (begin : ℕ) (held : Order) : Type 0 where
 
 pub passes_sent : (classes : List Allowed) (arrived : List Arrival) (before : List Row) (r : Row) (s e : ℕ) (rule : Rule) (held : Order)
     → r.fate ≡ Sent s e rule → IsOfArrival classes arrived r → Holds arrived before held → r.class < length held.sent.items
-    → MaySend r s held → IsInOrder arrived before r
+    → MaySend r s held → RowIsInOrder arrived before r
 passes_sent classes arrived before r s e rule held f is o lt may =
     let here : List ℕ = numbers_sent_in arrived (class_of arrived r.number) (decisions before) in
     let all : AllBelow r.number here
@@ -73,7 +73,7 @@ passes_sent classes arrived before r s e rule held f is o lt may =
 
 pub needs_sent : (classes : List Allowed) (arrived : List Arrival) (before : List Row) (r : Row) (s e : ℕ) (rule : Rule) (held : Order)
     → r.fate ≡ Sent s e rule → IsOfArrival classes arrived r → Holds arrived before held → r.class < length held.sent.items
-    → IsInOrder arrived before r → MaySend r s held
+    → RowIsInOrder arrived before r → MaySend r s held
 needs_sent classes arrived before r s e rule held f is o lt so =
     let here : List ℕ = numbers_sent_in arrived (class_of arrived r.number) (decisions before) in
     let A : Fate → Type 0 = λ t. IfSent t (λ x y. AllBelow r.number here) in
@@ -95,7 +95,7 @@ pub record MayDrop (r : Row) (held : Order) : Type 0 where
 
 pub passes_drop : (classes : List Allowed) (arrived : List Arrival) (before : List Row) (r : Row) (reason : Reason) (held : Order)
     → r.fate ≡ Dropped reason → IsOfArrival classes arrived r → Holds arrived before held
-    → MayDrop r held → IsInOrder arrived before r
+    → MayDrop r held → RowIsInOrder arrived before r
 passes_drop classes arrived before r reason held f is o may =
     let all : AllBelow r.number (dropped (decisions before)) = below r.number (dropped (decisions before)) (omega (arith, may.number, o.numbers_dropped)) in
     let sooner : AllBelow (at_of arrived r.number) (starts (decisions before))
@@ -115,7 +115,7 @@ passes_drop classes arrived before r reason held f is o may =
 
 pub needs_drop : (classes : List Allowed) (arrived : List Arrival) (before : List Row) (r : Row) (reason : Reason) (held : Order)
     → r.fate ≡ Dropped reason → IsOfArrival classes arrived r → Holds arrived before held
-    → IsInOrder arrived before r → MayDrop r held
+    → RowIsInOrder arrived before r → MayDrop r held
 needs_drop classes arrived before r reason held f is o so =
     let B : Fate → Type 0 = λ t. IfDropped t (AllBelow r.number (dropped (decisions before))) in
     let D : Fate → Type 0 = λ t. IfDropped t (AllBelow (at_of arrived r.number) (starts (decisions before))) in

@@ -5,9 +5,9 @@ use Rattle.fate_judge.specs.declared.given.Kind.{Kind}
 use Rattle.fate_judge.specs.declared.given.Kind.TheVariants as kind
 use Rattle.fate_judge.specs.Ends.{HasEnd}
 use Rattle.fate_judge.specs.Judged.{Case, Passes, PassesAll}
-use Rattle.fate_judge.specs.Order.{IsInOrder}
+use Rattle.fate_judge.specs.Order.{RowIsInOrder}
 use Rattle.fate_judge.specs.Reading.{IsRead}
-use Rattle.fate_judge.specs.Tests.{AreSeen, HaveOne, IsInTime, IsNew}
+use Rattle.fate_judge.specs.Tests.{AreSeen, HaveOne, IsInTime, IsNewPacket}
 use Rattle.fate_judge.specs.Walk.{EachRow}
 use Rattle.fate_judge.proofs.Counted.{have_one}
 use Rattle.fate_judge.proofs.Passing.{each_weaker}
@@ -18,7 +18,7 @@ passes_kind c each one kind.Reading =
     each_weaker (PassesEach c.rate c.classes c.arrived) (IsRead c.classes c.arrived) [] c.rows (λ b r so. so.read) each
 passes_kind c each one kind.EachOnce = one
 passes_kind c each one kind.Order =
-    each_weaker (PassesEach c.rate c.classes c.arrived) (IsInOrder c.arrived) [] c.rows (λ b r so. so.order) each
+    each_weaker (PassesEach c.rate c.classes c.arrived) (RowIsInOrder c.arrived) [] c.rows (λ b r so. so.order) each
 passes_kind c each one kind.Moments =
     each_weaker (PassesEach c.rate c.classes c.arrived) (IsInTime c.arrived) [] c.rows (λ b r so. so.moments) each
 passes_kind c each one kind.Ends =
@@ -31,4 +31,4 @@ pub all_passed : (c : Case) (i : ℕ) (seen : List Bool) → length c.rows ≤ i
 all_passed c i seen le each stands long set =
     let all = all_rows (PassesEach c.rate c.classes c.arrived) c.rows i le each in
     let P = PassesEach c.rate c.classes c.arrived in
-    passes_kind c all (have_one c.rows i (length c.arrived) seen le (each_weaker P IsNew [] (take i c.rows) (λ b r so. so.new) each) stands long set)
+    passes_kind c all (have_one c.rows i (length c.arrived) seen le (each_weaker P IsNewPacket [] (take i c.rows) (λ b r so. so.new) each) stands long set)

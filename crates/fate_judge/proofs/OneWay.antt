@@ -5,9 +5,9 @@ use Rattle.fate_judge.specs.declared.given.Kind.{Kind}
 use Rattle.fate_judge.specs.declared.given.Kind.TheVariants as kind
 use Rattle.fate_judge.specs.Ends.{HasEnd}
 use Rattle.fate_judge.specs.Judged.{Case, FailsFirst, IsRefuted, Passes, PassesAll}
-use Rattle.fate_judge.specs.Order.{IsInOrder}
+use Rattle.fate_judge.specs.Order.{RowIsInOrder}
 use Rattle.fate_judge.specs.Reading.{IsRead}
-use Rattle.fate_judge.specs.Tests.{HaveOne, IsInTime, IsNew, LacksOne}
+use Rattle.fate_judge.specs.Tests.{HaveOne, IsInTime, IsNewPacket, LacksOne}
 use Rattle.fate_judge.specs.Walk.{EachRow, FirstFails, newest_first}
 use Rattle.fate_judge.proofs.Walking.{each_at}
 
@@ -46,26 +46,26 @@ none_first IsSo rows row each f =
     f.fails (each_at IsSo [] f.before f.behind f.at (subst P f.parts each))
 
 one_lack : (count : ℕ) (rows : List Row) (row other : ℕ) → LacksOne count rows row → LacksOne count rows other → row ≡ other
-one_lack count rows row other (inl f) (inl g) = one_first IsNew rows row other f g
-one_lack count rows row other (inl f) (inr g) = absurd (none_first IsNew rows row g.each f)
-one_lack count rows row other (inr f) (inl g) = absurd (none_first IsNew rows other f.each g)
+one_lack count rows row other (inl f) (inl g) = one_first IsNewPacket rows row other f g
+one_lack count rows row other (inl f) (inr g) = absurd (none_first IsNewPacket rows row g.each f)
+one_lack count rows row other (inr f) (inl g) = absurd (none_first IsNewPacket rows other f.each g)
 one_lack count rows row other (inr f) (inr g) = omega (arith, f.place, g.place)
 
 no_lack : (count : ℕ) (rows : List Row) (row : ℕ) → HaveOne count rows → LacksOne count rows row → ⊥
-no_lack count rows row h (inl f) = none_first IsNew rows row h.each f
+no_lack count rows row h (inl f) = none_first IsNewPacket rows row h.each f
 no_lack count rows row h (inr f) = let some = h.all f.number f.from_one f.there in omega (arith, some, f.none)
 
 one_row : (c : Case) (k : Kind) (row other : ℕ) → FailsFirst c k row → FailsFirst c k other → row ≡ other
 one_row c kind.Reading row other f g = one_first (IsRead c.classes c.arrived) c.rows row other f g
 one_row c kind.EachOnce row other f g = one_lack (length c.arrived) c.rows row other f g
-one_row c kind.Order row other f g = one_first (IsInOrder c.arrived) c.rows row other f g
+one_row c kind.Order row other f g = one_first (RowIsInOrder c.arrived) c.rows row other f g
 one_row c kind.Moments row other f g = one_first (IsInTime c.arrived) c.rows row other f g
 one_row c kind.Ends row other f g = one_first (HasEnd c.rate c.arrived) c.rows row other f g
 
 pub never_both : (c : Case) (k : Kind) (row : ℕ) → Passes c k → FailsFirst c k row → ⊥
 never_both c kind.Reading row p f = none_first (IsRead c.classes c.arrived) c.rows row p f
 never_both c kind.EachOnce row p f = no_lack (length c.arrived) c.rows row p f
-never_both c kind.Order row p f = none_first (IsInOrder c.arrived) c.rows row p f
+never_both c kind.Order row p f = none_first (RowIsInOrder c.arrived) c.rows row p f
 never_both c kind.Moments row p f = none_first (IsInTime c.arrived) c.rows row p f
 never_both c kind.Ends row p f = none_first (HasEnd c.rate c.arrived) c.rows row p f
 

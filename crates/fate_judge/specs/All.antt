@@ -5,15 +5,15 @@ use Rattle.fate_check.specs.declared.reading.Row.{Row}
 use Rattle.fate_judge.specs.declared.all.AllTests.{AllTests}
 use Rattle.fate_judge.specs.declared.given.Allowed.{Allowed}
 use Rattle.fate_judge.specs.Ends.{HasEnd, IsLink}
-use Rattle.fate_judge.specs.Order.{IsInOrder, IsOrder}
+use Rattle.fate_judge.specs.Order.{RowIsInOrder, IsOrder}
 use Rattle.fate_judge.specs.Reading.{IsOfArrival}
-use Rattle.fate_judge.specs.Tests.{AreSeen, IsFree, IsInTime, IsNew}
+use Rattle.fate_judge.specs.Tests.{AreSeen, IsFree, IsInTime, IsNewPacket}
 
 -- a row passes each test
 pub record PassesEach (rate : ℕ) (classes : List Allowed) (arrived : List Arrival) (before : List Row) (r : Row) : Type 0 where
   pub read : IsOfArrival classes arrived r
-  pub new : IsNew before r
-  pub order : IsInOrder arrived before r
+  pub new : IsNewPacket before r
+  pub order : RowIsInOrder arrived before r
   pub moments : IsInTime arrived before r
   pub end : HasEnd rate arrived before r
 

@@ -8,7 +8,7 @@ use Rattle.fate_judge.specs.declared.given.Kind.TheVariants as kind
 use Rattle.fate_judge.specs.declared.given.Refuted.{Refuted}
 use Rattle.fate_judge.specs.declared.given.Refuted.TheVariants.{At, NoMemory}
 use Rattle.fate_judge.specs.Ends.{HasEnd}
-use Rattle.fate_judge.specs.Order.{IsInOrder}
+use Rattle.fate_judge.specs.Order.{RowIsInOrder}
 use Rattle.fate_judge.specs.Reading.{IsRead}
 use Rattle.fate_judge.specs.Tests.{HaveOne, IsInTime, LacksOne}
 use Rattle.fate_judge.specs.Walk.{EachRow, FirstFails}
@@ -23,14 +23,14 @@ pub record Case : Type 0 where
 abbrev pub Passes : Case → Kind → Type 0
 Passes c kind.Reading = EachRow (IsRead c.classes c.arrived) [] c.rows
 Passes c kind.EachOnce = HaveOne (length c.arrived) c.rows
-Passes c kind.Order = EachRow (IsInOrder c.arrived) [] c.rows
+Passes c kind.Order = EachRow (RowIsInOrder c.arrived) [] c.rows
 Passes c kind.Moments = EachRow (IsInTime c.arrived) [] c.rows
 Passes c kind.Ends = EachRow (HasEnd c.rate c.arrived) [] c.rows
 
 abbrev pub FailsFirst : Case → Kind → (row : ℕ) → Type 0
 FailsFirst c kind.Reading row = FirstFails (IsRead c.classes c.arrived) c.rows row
 FailsFirst c kind.EachOnce row = LacksOne (length c.arrived) c.rows row
-FailsFirst c kind.Order row = FirstFails (IsInOrder c.arrived) c.rows row
+FailsFirst c kind.Order row = FirstFails (RowIsInOrder c.arrived) c.rows row
 FailsFirst c kind.Moments row = FirstFails (IsInTime c.arrived) c.rows row
 FailsFirst c kind.Ends row = FirstFails (HasEnd c.rate c.arrived) c.rows row
 

@@ -8,7 +8,7 @@ use Rattle.fate_judge.specs.Given.{decision_of, decisions}
 
 -- numbers of a class's sendings rise, numbers of drops rise, starts do not fall; a drop stands after every sending that starts before
 -- its arrival, and before every other sending
-pub record IsInOrder (arrived : List Arrival) (before : List Row) (r : Row) : Type 0 where
+pub record RowIsInOrder (arrived : List Arrival) (before : List Row) (r : Row) : Type 0 where
   pub sends : SendsInOrder arrived (decisions before) (decision_of r)
   pub drops : DropsInOrder (decisions before) (decision_of r)
   pub starts : StartsInOrder (decisions before) (decision_of r)

@@ -17,8 +17,8 @@ abbrev pub rows_of : (n : ℕ) → List Row → ℕ
 rows_of n rows = occurs n (numbers (decisions rows))
 
 -- no row before this one has its number
-abbrev pub IsNew : (before : List Row) → Row → Type 0
-IsNew before r = rows_of r.number before ≡ 0
+abbrev pub IsNewPacket : (before : List Row) → Row → Type 0
+IsNewPacket before r = rows_of r.number before ≡ 0
 
 -- by number less 1: whether a row has that number
 abbrev pub AreSeen : (seen : List Bool) → (before : List Row) → Type 0
@@ -26,12 +26,12 @@ AreSeen seen before = (k : ℕ) → k < length seen → get_or seen k false ≡ 
 
 -- each number of the first `count` has one row
 pub record HaveOne (count : ℕ) (rows : List Row) : Type 0 where
-  pub each : EachRow IsNew [] rows
+  pub each : EachRow IsNewPacket [] rows
   pub all : (n : ℕ) → 0 < n → n ≤ count → 0 < rows_of n rows
 
 -- each row is new, and a number has none: it lacks at the row after the last one
 pub record Lacks (count : ℕ) (rows : List Row) (row : ℕ) : Type 0 where
-  pub each : EachRow IsNew [] rows
+  pub each : EachRow IsNewPacket [] rows
   pub number : ℕ
   pub from_one : 0 < number
   pub there : number ≤ count
@@ -40,7 +40,7 @@ pub record Lacks (count : ℕ) (rows : List Row) (row : ℕ) : Type 0 where
 
 -- where two rows have one number, the later fails
 abbrev pub LacksOne : (count : ℕ) → List Row → (row : ℕ) → Type 0
-LacksOne count rows row = FirstFails IsNew rows row ⊎ Lacks count rows row
+LacksOne count rows row = FirstFails IsNewPacket rows row ⊎ Lacks count rows row
 
 -- no start is before the packet's arrival or before the end of the sending before it
 pub record IsInTime (arrived : List Arrival) (before : List Row) (r : Row) : Type 0 where

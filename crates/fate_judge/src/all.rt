@@ -45,8 +45,10 @@ impl AllTests {
         requires most { rate ≤ 10 ^ 12 }
         requires room { HaveRoom rate (length arrived.now) (length classes.now) self.old }
         ensures room { result ≡ true → HaveRoom rate (length arrived.now) (length classes.now) self.new }
-        ensures passes { result ≡ true → (before : List Row) → AreTold rate (bare_arrivals arrived.now) before self.old → PassesEach rate classes.now (bare_arrivals arrived.now) before row.now }
-        ensures stands { result ≡ true → (before : List Row) → AreTold rate (bare_arrivals arrived.now) before self.old → AreTold rate (bare_arrivals arrived.now) (row.now ∷ before) self.new }
+        ensures passes { result ≡ true → (before : List Row) → AreTold rate (bare_arrivals arrived.now) before self.old
+            → PassesEach rate classes.now (bare_arrivals arrived.now) before row.now }
+        ensures stands { result ≡ true → (before : List Row) → AreTold rate (bare_arrivals arrived.now) before self.old
+            → AreTold rate (bare_arrivals arrived.now) (row.now ∷ before) self.new }
     {
         if !is_of_arrival(classes, arrived, row) {
             return false;
@@ -74,7 +76,12 @@ pub(crate) fn all_pass(
 ) -> Result<bool, NoMemory>
     requires some { 0 < rate }
     requires most { rate ≤ 10 ^ 12 }
-    ensures { IfOk result (λ all. all ≡ true → PassesAll (record { rate = rate; classes = classes.now; arrived = bare_arrivals arrived.now; rows = rows.now })) }
+    ensures { IfOk result (λ all. all ≡ true → PassesAll (record {
+      rate = rate;
+      classes = classes.now;
+      arrived = bare_arrivals arrived.now;
+      rows = rows.now;
+    })) }
 {
     let mut tests = AllTests::new(alloc, arrived.len(), classes.len())?;
     for row in rows {

@@ -71,9 +71,12 @@ impl Run {
         requires most { rate ≤ 10 ^ 12 }
         requires few { self.old.sent ≤ rate * 2 ^ 64 }
         ensures few { result ≡ true → self.new.sent ≤ rate * 2 ^ 64 }
-        ensures passes { result ≡ true → (classes : List Allowed) (arrived : List Arrival) (before : List Row) → IsOfArrival classes arrived row.now → IsLink rate arrived before self.old → HasEnd rate arrived before row.now }
-        ensures stands { result ≡ true → (classes : List Allowed) (arrived : List Arrival) (before : List Row) → IsOfArrival classes arrived row.now → IsLink rate arrived before self.old → IsLink rate arrived (row.now ∷ before) self.new }
-        ensures fails { result ≡ false → (classes : List Allowed) (arrived : List Arrival) (before : List Row) → IsOfArrival classes arrived row.now → IsLink rate arrived before self.old → ¬ HasEnd rate arrived before row.now }
+        ensures passes { result ≡ true → (classes : List Allowed) (arrived : List Arrival) (before : List Row) → IsOfArrival classes arrived row.now
+            → IsLink rate arrived before self.old → HasEnd rate arrived before row.now }
+        ensures stands { result ≡ true → (classes : List Allowed) (arrived : List Arrival) (before : List Row) → IsOfArrival classes arrived row.now
+            → IsLink rate arrived before self.old → IsLink rate arrived (row.now ∷ before) self.new }
+        ensures fails { result ≡ false → (classes : List Allowed) (arrived : List Arrival) (before : List Row) → IsOfArrival classes arrived row.now
+            → IsLink rate arrived before self.old → ¬ HasEnd rate arrived before row.now }
     {
         let Fate::Sent { start, end, .. } = row.fate else {
             return true;

@@ -27,9 +27,11 @@ impl Free {
 
     // Whether a row passes the test; then it is told of the row.
     pub(crate) fn passes(&mut self, row: &Row) -> bool
-        ensures passes { result ≡ true → (classes : List Allowed) (arrived : List Arrival) (before : List Row) → IsOfArrival classes arrived row.now → IsFree before self.old.end → IsInTime arrived before row.now }
+        ensures passes { result ≡ true → (classes : List Allowed) (arrived : List Arrival) (before : List Row) → IsOfArrival classes arrived row.now
+            → IsFree before self.old.end → IsInTime arrived before row.now }
         ensures stands { result ≡ true → (before : List Row) → IsFree before self.old.end → IsFree (row.now ∷ before) self.new.end }
-        ensures fails { result ≡ false → (classes : List Allowed) (arrived : List Arrival) (before : List Row) → IsOfArrival classes arrived row.now → IsFree before self.old.end → ¬ IsInTime arrived before row.now }
+        ensures fails { result ≡ false → (classes : List Allowed) (arrived : List Arrival) (before : List Row) → IsOfArrival classes arrived row.now
+            → IsFree before self.old.end → ¬ IsInTime arrived before row.now }
     {
         let Fate::Sent { start, end, .. } = row.fate else {
             return true;

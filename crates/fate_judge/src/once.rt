@@ -1,7 +1,7 @@
 // One row of each packet.
 ghost use Rattle.std.specs.Prelude.{◌≡◌, ◌≤◌, ◌<◌, ℕ, List, [], ◌∷◌, IfOk, MatchOption, get_or, length, true, false, vec_len};
 ghost use Rattle.fate_check.specs.declared.reading.Row.{Row};
-ghost use Rattle.fate_judge.specs.Tests.{AreSeen, HaveOne, IsNew, IsNumbered, LacksOne};
+ghost use Rattle.fate_judge.specs.Tests.{AreSeen, HaveOne, IsNewPacket, IsNumbered, LacksOne};
 ghost use Rattle.fate_judge.specs.Walk.{EachRow};
 
 use fate_check::Row;
@@ -45,9 +45,9 @@ impl Seen {
         requires from_one { 0 < row.now.number }
         requires there { row.now.number ≤ vec_len self.old.numbers }
         ensures count { vec_len self.new.numbers ≡ vec_len self.old.numbers }
-        ensures passes { result ≡ true → (before : List Row) → AreSeen self.old.numbers.items before → IsNew before row.now }
+        ensures passes { result ≡ true → (before : List Row) → AreSeen self.old.numbers.items before → IsNewPacket before row.now }
         ensures stands { result ≡ true → (before : List Row) → AreSeen self.old.numbers.items before → AreSeen self.new.numbers.items (row.now ∷ before) }
-        ensures fails { result ≡ false → (before : List Row) → AreSeen self.old.numbers.items before → ¬ IsNew before row.now }
+        ensures fails { result ≡ false → (before : List Row) → AreSeen self.old.numbers.items before → ¬ IsNewPacket before row.now }
     {
         let place = row.number as usize - 1;
         if self.numbers[place] {

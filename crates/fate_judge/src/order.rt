@@ -2,7 +2,7 @@
 ghost use Rattle.std.specs.Prelude.{◌≡◌, ◌<◌, ℕ, List, [], ◌∷◌, IfOk, MatchOption, true, false, vec_len};
 ghost use Rattle.altq_model.specs.History.{Arrival};
 ghost use Rattle.fate_check.specs.declared.reading.Row.{Row};
-ghost use Rattle.fate_judge.specs.Order.{IsInOrder, IsOrder};
+ghost use Rattle.fate_judge.specs.Order.{RowIsInOrder, IsOrder};
 ghost use Rattle.fate_judge.specs.Reading.{HasClass, IsOfArrival, IsRead};
 ghost use Rattle.fate_judge.specs.Walk.{EachRow, FirstFails};
 ghost use Rattle.fate_judge.specs.declared.given.Allowed.{Allowed};
@@ -40,9 +40,13 @@ impl Order {
     pub(crate) fn passes(&mut self, row: &Row) -> bool
         requires class { row.now.class < vec_len self.old.sent }
         ensures count { vec_len self.new.sent ≡ vec_len self.old.sent }
-        ensures passes { result ≡ true → (classes : List Allowed) (arrived : List Arrival) (before : List Row) → IsOfArrival classes arrived row.now → IsOrder arrived before self.old.sent.items self.old.start self.old.drop self.old.moment → IsInOrder arrived before row.now }
-        ensures stands { result ≡ true → (classes : List Allowed) (arrived : List Arrival) (before : List Row) → IsOfArrival classes arrived row.now → IsOrder arrived before self.old.sent.items self.old.start self.old.drop self.old.moment → IsOrder arrived (row.now ∷ before) self.new.sent.items self.new.start self.new.drop self.new.moment }
-        ensures fails { result ≡ false → (classes : List Allowed) (arrived : List Arrival) (before : List Row) → IsOfArrival classes arrived row.now → IsOrder arrived before self.old.sent.items self.old.start self.old.drop self.old.moment → ¬ IsInOrder arrived before row.now }
+        ensures passes { result ≡ true → (classes : List Allowed) (arrived : List Arrival) (before : List Row) → IsOfArrival classes arrived row.now
+            → IsOrder arrived before self.old.sent.items self.old.start self.old.drop self.old.moment → RowIsInOrder arrived before row.now }
+        ensures stands { result ≡ true → (classes : List Allowed) (arrived : List Arrival) (before : List Row) → IsOfArrival classes arrived row.now
+            → IsOrder arrived before self.old.sent.items self.old.start self.old.drop self.old.moment
+            → IsOrder arrived (row.now ∷ before) self.new.sent.items self.new.start self.new.drop self.new.moment }
+        ensures fails { result ≡ false → (classes : List Allowed) (arrived : List Arrival) (before : List Row) → IsOfArrival classes arrived row.now
+            → IsOrder arrived before self.old.sent.items self.old.start self.old.drop self.old.moment → ¬ RowIsInOrder arrived before row.now }
     {
         let number = u128::from(row.number);
         let above = number + 1;
@@ -78,7 +82,7 @@ pub(crate) fn first_out_of_order(
 ) -> Result<Option<u64>, NoMemory>
     requires { EachRow (HasClass count) [] rows.now }
     ensures { (classes : List Allowed) (arrived : List Arrival) → EachRow (IsRead classes arrived) [] rows.now
-        → IfOk result (λ o. MatchOption o (EachRow (IsInOrder arrived) [] rows.now) (FirstFails (IsInOrder arrived) rows.now)) }
+        → IfOk result (λ o. MatchOption o (EachRow (RowIsInOrder arrived) [] rows.now) (FirstFails (RowIsInOrder arrived) rows.now)) }
 {
     let mut order = Order::new(alloc, count)?;
     for (i, row) in rows.iter().enumerate() {

@@ -50,7 +50,8 @@ pub(crate) fn is_of_arrival(classes: &[Allowed], arrived: &[Arrived], row: &Row)
 
 // The first row that is of no packet which arrived.
 pub(crate) fn first_unread(classes: &[Allowed], arrived: &[Arrived], rows: &[Row]) -> Option<u64>
-    ensures { MatchOption result (EachRow (IsRead classes.now (bare_arrivals arrived.now)) [] rows.now) (FirstFails (IsRead classes.now (bare_arrivals arrived.now)) rows.now) }
+    ensures { MatchOption result (EachRow (IsRead classes.now (bare_arrivals arrived.now)) [] rows.now) (FirstFails (IsRead classes.now
+        (bare_arrivals arrived.now)) rows.now) }
 {
     for (i, row) in rows.iter().enumerate() {
         if !is_of_arrival(classes, arrived, row) {

@@ -9,7 +9,7 @@ use Rattle.altq_model.specs.declared.Verdict.{Verdict}
 use Rattle.altq_model.specs.declared.Verdict.TheVariants.{Keep, Mark, Drop}
 use Rattle.altq_model.specs.Arrivals.{Captured, arrival, no_arrival}
 use Rattle.altq_model.specs.Departures.{Dressing, departed, departed_by, departure, departures}
-use Rattle.altq_model.specs.History.{Decision, Event, Offered, Sent, Happened, decided, dropped_by, journal, was_marked}
+use Rattle.altq_model.specs.History.{Decision, Event, Offered, Sent, LabelledEvent, decided, dropped_by, journal, was_marked}
 use Rattle.altq_model.specs.Laws.{EndsInTime, IsInTime}
 use Rattle.play_laws.proofs.DepartureLemmas.{texts-append}
 use Rattle.fate_check.specs.declared.reading.Row.{Row}
@@ -41,7 +41,7 @@ same_both dress p rows left l =
     subst P (sym (append-nil rows)) (subst Q (sym (append-nil left)) l)
 
 -- what one event adds
-event_leaves : (dress : Dressing) (p : Packets) (arrived : List Captured) (n : ℕ) (s : Event) (g : List Happened) (rows : List Row) (left : List ℕ) → HasFrames p arrived
+event_leaves : (dress : Dressing) (p : Packets) (arrived : List Captured) (n : ℕ) (s : Event) (g : List LabelledEvent) (rows : List Row) (left : List ℕ) → HasFrames p arrived
     → EndsInTime s → MayHaveMarked p arrived n s g → Leave dress p rows left
     → Leave dress p (rows ++ rows_for arrived (decided n s)) (left ++ record_texts (departed_by dress arrived n s g))
 event_leaves dress p arrived n (Offered a w v) g rows left h early may l = offered v.verdict
@@ -63,7 +63,7 @@ event_leaves dress p arrived n (Sent s) g rows left h early may l =
     let P : List ℕ → Type 0 = λ xs. Leave dress p (rows ++ r ∷ []) (left ++ xs) in
     subst P (sym (append-nil piece)) (leave_more dress p rows r left piece l its)
 
-leave_all : (dress : Dressing) (p : Packets) (arrived : List Captured) (g : List Happened) → HasFrames p arrived → IsInTime g → MarksAreAllowed p arrived g
+leave_all : (dress : Dressing) (p : Packets) (arrived : List Captured) (g : List LabelledEvent) → HasFrames p arrived → IsInTime g → MarksAreAllowed p arrived g
     → Leave dress p (rows_for arrived (journal g)) (record_texts (departed dress arrived g))
 leave_all dress p arrived [] h early may = refl
 leave_all dress p arrived (e ∷ g) h early may =
@@ -74,7 +74,7 @@ leave_all dress p arrived (e ∷ g) h early may =
     (event_leaves dress p arrived e.label e.what g (rows_for arrived (journal g)) (record_texts (departed dress arrived g)) h early.0 may.0
     (leave_all dress p arrived g h early.1 may.1)))
 
-pub departures_pass : (dress : Dressing) (p : Packets) (arrived : List Captured) (g : List Happened) → HasFrames p arrived → IsInTime g → MarksAreAllowed p arrived g
+pub departures_pass : (dress : Dressing) (p : Packets) (arrived : List Captured) (g : List LabelledEvent) → HasFrames p arrived → IsInTime g → MarksAreAllowed p arrived g
     → AreDepartures dress p (rows_for arrived (journal g)) (departures dress arrived g)
 departures_pass dress p arrived g h early may = record {
   left = record_texts (departed dress arrived g);

@@ -13,9 +13,9 @@ use Rattle.fate_judge.specs.declared.given.Allowed.{Allowed}
 use Rattle.fate_judge.specs.declared.given.Kind.TheVariants as kind
 use Rattle.fate_judge.specs.Given.{decision_of, decisions}
 use Rattle.fate_judge.specs.Judged.{PassesAll}
-use Rattle.fate_judge.specs.Order.{IsInOrder}
+use Rattle.fate_judge.specs.Order.{RowIsInOrder}
 use Rattle.fate_judge.specs.Reading.{IsOfArrival, IsRead, can_occur_in}
-use Rattle.fate_judge.specs.Tests.{HaveOne, IsInTime, IsNew}
+use Rattle.fate_judge.specs.Tests.{HaveOne, IsInTime, IsNewPacket}
 use Rattle.fate_judge.specs.Walk.{EachRow}
 use Rattle.fate_busy.specs.Busy.{StartsAtOnce}
 use Rattle.fate_laws.specs.Plays.{CanOccur}
@@ -89,7 +89,7 @@ read_each classes arrived before (d ∷ js) from can =
     (its, read_each classes arrived (row_for arrived d ∷ before) js (λ n lt. from n (omega (arith, lt))) can.1)
 
 new_each : (arrived : List Captured) (before : List Row) (js : List Decision)
-    → ((n : ℕ) → occurs n (numbers (decisions before)) + occurs n (numbers js) ≤ 1) → EachRow IsNew before (rows_for arrived js)
+    → ((n : ℕ) → occurs n (numbers (decisions before)) + occurs n (numbers js) ≤ 1) → EachRow IsNewPacket before (rows_for arrived js)
 new_each arrived before [] few = tt
 new_each arrived before (d ∷ js) few =
     let first = occurs_first d.0 (numbers js) in
@@ -108,7 +108,7 @@ have_one arrived js c = record {
 
 in_order : (arrived : List Captured) (cs : List Arrival) (before : List Row) (js : List Decision) → EachAfter (SendsInOrder cs) (decisions before) js
     → EachAfter DropsInOrder (decisions before) js → EachAfter StartsInOrder (decisions before) js → EachAfter (DropsAtArrival cs) (decisions before) js
-    → EachAfter (SendsAfterDrops cs) (decisions before) js → EachRow (IsInOrder cs) before (rows_for arrived js)
+    → EachAfter (SendsAfterDrops cs) (decisions before) js → EachRow (RowIsInOrder cs) before (rows_for arrived js)
 in_order arrived cs before [] a b c d e = tt
 in_order arrived cs before (j ∷ js) a b c d e = (
   record { sends = a.0; drops = b.0; starts = c.0; drop_at_arrival = d.0; send_after_drops = e.0 },

@@ -11,7 +11,7 @@ use Rattle.altq_model.specs.declared.Verdict.{Verdict}
 use Rattle.altq_model.specs.declared.Verdict.TheVariants.{Keep, Mark, Drop}
 use Rattle.altq_model.specs.Arrivals.{Captured, arrival, bare_arrivals}
 use Rattle.altq_model.specs.declared.Rule.{Rule}
-use Rattle.altq_model.specs.History.{Arrival, Decision, DrawnWords, Event, Sent, Sending, Happened, bare, drawn, dropped_by, head, journal, offered, waiting}
+use Rattle.altq_model.specs.History.{Arrival, Decision, DrawnWords, Event, Sent, Sending, LabelledEvent, unlabelled, drawn, dropped_by, head, journal, offered, waiting}
 use Rattle.altq_model.specs.Play.{Policy}
 use Rattle.play_laws.specs.Events.{AreOfArrivals, EachFollows, HasLaws, IsOfArrival, IsOffer, IsSending, SendsArrival}
 use Rattle.play_laws.proofs.OrderLemmas.{head_numbered}
@@ -34,18 +34,18 @@ use Rattle.fate_laws.proofs.Departing.{rows_append}
 use Rattle.fate_laws.proofs.Passing.{at_is, class_is, len_is}
 
 -- the rows of a journal, the newest first
-abbrev pub recent : List Captured → List Happened → List Row
+abbrev pub recent : List Captured → List LabelledEvent → List Row
 recent arrived g = newest_first (rows_for arrived (journal g)) []
 
 newest_last : (xs before : List Row) (r : Row) → newest_first (xs ++ r ∷ []) before ≡ r ∷ newest_first xs before
 newest_last [] before r = refl
 newest_last (x ∷ xs) before r = newest_last xs (x ∷ before) r
 
-recent_more : (arrived : List Captured) (g : List Happened) (d : Decision) → newest_first (rows_for arrived (journal g ++ d ∷ [])) [] ≡ row_for arrived d ∷ recent arrived g
+recent_more : (arrived : List Captured) (g : List LabelledEvent) (d : Decision) → newest_first (rows_for arrived (journal g ++ d ∷ [])) [] ≡ row_for arrived d ∷ recent arrived g
 recent_more arrived g d =
     ap (λ (rs : List Row). newest_first rs []) (rows_append arrived (journal g) (d ∷ [])) ∙ newest_last (rows_for arrived (journal g)) [] (row_for arrived d)
 
-recent_same : (arrived : List Captured) (g : List Happened) → newest_first (rows_for arrived (journal g ++ [])) [] ≡ recent arrived g
+recent_same : (arrived : List Captured) (g : List LabelledEvent) → newest_first (rows_for arrived (journal g ++ [])) [] ≡ recent arrived g
 recent_same arrived g = ap (λ (js : List Decision). newest_first (rows_for arrived js) []) (append-nil (journal g))
 
 if_same : {A : Type 0} (b : Bool) (x : A) → (if b then x else x) ≡ x
@@ -53,13 +53,13 @@ if_same true x = refl
 if_same false x = refl
 
 -- a sending's packet
-pub record IsPacketOf (arrived : List Captured) (n : ℕ) (rate : ℕ) (g : List Happened) (s : Sending) : Type 0 where
+pub record IsPacketOf (arrived : List Captured) (n : ℕ) (rate : ℕ) (g : List LabelledEvent) (s : Sending) : Type 0 where
   pub packet : Arrival
   pub arrival_is : slice_get (bare_arrivals arrived) (n - 1) ≡ Some packet
-  pub front : head s.class (bare g) ≡ Some packet
+  pub front : head s.class (unlabelled g) ≡ Some packet
   pub class : s.class ≡ packet.class
   pub len : s.len ≡ packet.len
-  pub end : s.end ≡ free rate (run_after rate (hfsc_history (Sent s ∷ bare g)))
+  pub end : s.end ≡ free rate (run_after rate (hfsc_history (Sent s ∷ unlabelled g)))
 
 its_at : (arrived : List Captured) (n : ℕ) (b : Arrival) → slice_get (bare_arrivals arrived) (n - 1) ≡ Some b → (arrival arrived n).at ≡ b.at
 its_at arrived n b e = at_is arrived n ∙ ap (λ (o : Option Arrival). option_map_or (λ (x : Arrival). x.at) o 0) e
@@ -91,38 +91,38 @@ added_if true false xs ys rs us e h f = absurd cc
 added_if false true xs ys rs us e h f = absurd cc
 added_if false false xs ys rs us e h f = f
 
-sending_adds : (rate : ℕ) (arrived : List Captured) (n : ℕ) (s : Sending) (g : List Happened) (c : ℕ) → IsPacketOf arrived n rate g s
-    → rows rate (hfsc_history (bare g)) c ≡ sent_rows c (recent arrived g)
-    → rows rate (hfsc_history (Sent s ∷ bare g)) c ≡ sent_rows c (row_for arrived (n, fate.Sent s.start s.end s.rule) ∷ recent arrived g)
+sending_adds : (rate : ℕ) (arrived : List Captured) (n : ℕ) (s : Sending) (g : List LabelledEvent) (c : ℕ) → IsPacketOf arrived n rate g s
+    → rows rate (hfsc_history (unlabelled g)) c ≡ sent_rows c (recent arrived g)
+    → rows rate (hfsc_history (Sent s ∷ unlabelled g)) c ≡ sent_rows c (row_for arrived (n, fate.Sent s.start s.end s.rule) ∷ recent arrived g)
 sending_adds rate arrived n s g c k same =
     let r = row_for arrived (n, fate.Sent s.start s.end s.rule) in
     let rs = sent_rows c (recent arrived g) in
-    let end = free rate (run_after rate (hfsc_history (Sent s ∷ bare g))) in
+    let end = free rate (run_after rate (hfsc_history (Sent s ∷ unlabelled g))) in
     let its : s.class ≡ r.class = k.class ∙ sym (its_class arrived n k.packet k.arrival_is) in
     let one : SentRow = record { at = k.packet.at; len = k.packet.len; start = s.start; end = end } in
     let two : SentRow = record { at = r.at; len = r.len; start = s.start; end = s.end } in
-    let old = rows rate (hfsc_history (bare g)) c in
+    let old = rows rate (hfsc_history (unlabelled g)) c in
     let pair : one ≡ two
     = row_eq k.packet.at r.at k.packet.len r.len s.start end s.end (sym (its_at arrived n k.packet k.arrival_is)) (sym (its_len arrived n k.packet k.arrival_is)) (sym k.end) in
-    added_if (s.class == c) (r.class == c) (with_row (leaf (hfsc_history (bare g)) c).waiting s.start end old) (two ∷ rs) old rs
+    added_if (s.class == c) (r.class == c) (with_row (leaf (hfsc_history (unlabelled g)) c).waiting s.start end old) (two ∷ rs) old rs
     (ap (λ (m : ℕ). m == c) its)
     (λ e.
     let of : s.class ≡ c = grind (arith, nat_tests, e) in
-    let P : ℕ → Type 0 = λ m. head m (bare g) ≡ Some k.packet in
-    ap (λ (ws : List Waiting). with_row ws s.start end old) (leaf_waits c (bare g)) ∙ front_row (waiting c (bare g)) k.packet s.start end old (subst P of k.front)
+    let P : ℕ → Type 0 = λ m. head m (unlabelled g) ≡ Some k.packet in
+    ap (λ (ws : List Waiting). with_row ws s.start end old) (leaf_waits c (unlabelled g)) ∙ front_row (waiting c (unlabelled g)) k.packet s.start end old (subst P of k.front)
     ∙ ap (λ (xs : List SentRow). one ∷ xs) same ∙ ap (λ (x : SentRow). x ∷ rs) pair)
     same
 
-offer_same : (rate : ℕ) (arrived : List Captured) (n : ℕ) (a : Arrival) (v : Verdict) (g : List Happened) (c : ℕ)
-    → rows rate (hfsc_history (bare g)) c ≡ sent_rows c (recent arrived g)
-    → rows rate (with_offer v a (hfsc_history (bare g))) c ≡ sent_rows c (newest_first (rows_for arrived (journal g ++ dropped_by v n)) [])
+offer_same : (rate : ℕ) (arrived : List Captured) (n : ℕ) (a : Arrival) (v : Verdict) (g : List LabelledEvent) (c : ℕ)
+    → rows rate (hfsc_history (unlabelled g)) c ≡ sent_rows c (recent arrived g)
+    → rows rate (with_offer v a (hfsc_history (unlabelled g))) c ≡ sent_rows c (newest_first (rows_for arrived (journal g ++ dropped_by v n)) [])
 offer_same rate arrived n a Keep g c same = same ∙ ap (λ (rs : List Row). sent_rows c rs) (sym (recent_same arrived g))
 offer_same rate arrived n a Mark g c same = same ∙ ap (λ (rs : List Row). sent_rows c rs) (sym (recent_same arrived g))
 offer_same rate arrived n a (Drop reason) g c same =
     let r = row_for arrived (n, fate.Dropped reason) in
     same ∙ sym (if_same (r.class == c) (sent_rows c (recent arrived g))) ∙ ap (λ (rs : List Row). sent_rows c rs) (sym (recent_more arrived g (n, fate.Dropped reason)))
 
-packet_of : (p : Policy) (rate seed : ℕ) (arrived : List Captured) (g : List Happened) (e : Happened) → 0 < rate → EachFollows p rate seed (bare_arrivals arrived) g
+packet_of : (p : Policy) (rate seed : ℕ) (arrived : List Captured) (g : List LabelledEvent) (e : LabelledEvent) → 0 < rate → EachFollows p rate seed (bare_arrivals arrived) g
     → (x : IsSending p rate (bare_arrivals arrived) g e) → SendsArrival (bare_arrivals arrived) e.label x.sending → IsPacketOf arrived e.label rate g x.sending
 packet_of p rate seed arrived g e some f x k =
     let its = head_numbered p rate seed (bare_arrivals arrived) g x.sending.class e.label x.packet f x.number x.front in
@@ -134,24 +134,24 @@ packet_of p rate seed arrived g e some f x k =
       front = x.front;
       class = k.class ∙ ap (λ (b : Arrival). b.class) same;
       len = x.len;
-      end = x.end ∙ (link_is rate (Sent x.sending ∷ bare g) some).free;
+      end = x.end ∙ (link_is rate (Sent x.sending ∷ unlabelled g) some).free;
     }
 
 -- the packets that HFSC sent are those of the rows
-rows_same : (p : Policy) (rate seed : ℕ) (arrived : List Captured) (g : List Happened) (c : ℕ) → 0 < rate → EachFollows p rate seed (bare_arrivals arrived) g
-    → AreOfArrivals (bare_arrivals arrived) g → rows rate (hfsc_history (bare g)) c ≡ sent_rows c (recent arrived g)
+rows_same : (p : Policy) (rate seed : ℕ) (arrived : List Captured) (g : List LabelledEvent) (c : ℕ) → 0 < rate → EachFollows p rate seed (bare_arrivals arrived) g
+    → AreOfArrivals (bare_arrivals arrived) g → rows rate (hfsc_history (unlabelled g)) c ≡ sent_rows c (recent arrived g)
 rows_same p rate seed arrived [] c some f k = refl
 rows_same p rate seed arrived (e ∷ g) c some f k = step f.0 (rows_same p rate seed arrived g c some f.1 k.1) f.1 k.0
   where
-    step : IsOffer p rate seed (bare_arrivals arrived) g e ⊎ IsSending p rate (bare_arrivals arrived) g e → rows rate (hfsc_history (bare g)) c ≡ sent_rows c (recent arrived g)
+    step : IsOffer p rate seed (bare_arrivals arrived) g e ⊎ IsSending p rate (bare_arrivals arrived) g e → rows rate (hfsc_history (unlabelled g)) c ≡ sent_rows c (recent arrived g)
         → EachFollows p rate seed (bare_arrivals arrived) g → IsOfArrival (bare_arrivals arrived) e.label e.what
-        → rows rate (hfsc_history (bare (e ∷ g))) c ≡ sent_rows c (recent arrived (e ∷ g))
+        → rows rate (hfsc_history (unlabelled (e ∷ g))) c ≡ sent_rows c (recent arrived (e ∷ g))
     step (inl x) same f k =
-        let P : Happened → Type 0 = λ z. rows rate (hfsc_history (bare (z ∷ g))) c ≡ sent_rows c (recent arrived (z ∷ g)) in
-        let w : DrawnWords = record { seed = seed; drawn = drawn (bare g) } in
-        subst P (sym x.offer) (offer_same rate arrived (offered (bare g) + 1) x.packet (p.answer (bare g) w x.packet).verdict g c same)
+        let P : LabelledEvent → Type 0 = λ z. rows rate (hfsc_history (unlabelled (z ∷ g))) c ≡ sent_rows c (recent arrived (z ∷ g)) in
+        let w : DrawnWords = record { seed = seed; drawn = drawn (unlabelled g) } in
+        subst P (sym x.offer) (offer_same rate arrived (offered (unlabelled g) + 1) x.packet (p.answer (unlabelled g) w x.packet).verdict g c same)
     step (inr x) same f k =
-        let P : Event → Type 0 = λ z. let h : Happened = record { label = e.label; what = z } in rows rate (hfsc_history (bare (h ∷ g))) c ≡ sent_rows c (recent arrived (h ∷ g)) in
+        let P : Event → Type 0 = λ z. let h : LabelledEvent = record { label = e.label; what = z } in rows rate (hfsc_history (unlabelled (h ∷ g))) c ≡ sent_rows c (recent arrived (h ∷ g)) in
         let Q : Event → Type 0 = λ z. IsOfArrival (bare_arrivals arrived) e.label z in
         let its = packet_of p rate seed arrived g e some f x (subst Q x.event k) in
         subst P (sym x.event)
@@ -183,29 +183,29 @@ longest_offer Keep a h n le = le
 longest_offer Mark a h n le = le
 longest_offer (Drop reason) a h n le = le
 
-longest_within : (p : Policy) (rate seed : ℕ) (arrived : List Captured) (g : List Happened) → 0 < rate → EachFollows p rate seed (bare_arrivals arrived) g
-    → AreOfArrivals (bare_arrivals arrived) g → longest (hfsc_history (bare g)) ≤ longest_sent (rows_for arrived (journal g))
+longest_within : (p : Policy) (rate seed : ℕ) (arrived : List Captured) (g : List LabelledEvent) → 0 < rate → EachFollows p rate seed (bare_arrivals arrived) g
+    → AreOfArrivals (bare_arrivals arrived) g → longest (hfsc_history (unlabelled g)) ≤ longest_sent (rows_for arrived (journal g))
 longest_within p rate seed arrived [] some f k = omega arith
 longest_within p rate seed arrived (e ∷ g) some f k = step f.0 (longest_within p rate seed arrived g some f.1 k.1) f.1 k.0
   where
-    more : (js : List Decision) → longest (hfsc_history (bare g)) ≤ longest_sent (rows_for arrived (journal g))
-        → longest (hfsc_history (bare g)) ≤ longest_sent (rows_for arrived (journal g ++ js))
+    more : (js : List Decision) → longest (hfsc_history (unlabelled g)) ≤ longest_sent (rows_for arrived (journal g))
+        → longest (hfsc_history (unlabelled g)) ≤ longest_sent (rows_for arrived (journal g ++ js))
     more js le =
         let grows = longest_more (rows_for arrived (journal g)) (rows_for arrived js) in
         let same = ap longest_sent (rows_append arrived (journal g) js) in
         omega (arith, le, grows, same)
 
-    step : IsOffer p rate seed (bare_arrivals arrived) g e ⊎ IsSending p rate (bare_arrivals arrived) g e → longest (hfsc_history (bare g)) ≤ longest_sent (rows_for arrived (journal g))
+    step : IsOffer p rate seed (bare_arrivals arrived) g e ⊎ IsSending p rate (bare_arrivals arrived) g e → longest (hfsc_history (unlabelled g)) ≤ longest_sent (rows_for arrived (journal g))
         → EachFollows p rate seed (bare_arrivals arrived) g → IsOfArrival (bare_arrivals arrived) e.label e.what
-        → longest (hfsc_history (bare (e ∷ g))) ≤ longest_sent (rows_for arrived (journal (e ∷ g)))
+        → longest (hfsc_history (unlabelled (e ∷ g))) ≤ longest_sent (rows_for arrived (journal (e ∷ g)))
     step (inl x) le f k =
-        let P : Happened → Type 0 = λ z. longest (hfsc_history (bare (z ∷ g))) ≤ longest_sent (rows_for arrived (journal (z ∷ g))) in
-        let w : DrawnWords = record { seed = seed; drawn = drawn (bare g) } in
-        let v = (p.answer (bare g) w x.packet).verdict in
-        subst P (sym x.offer) (longest_offer v x.packet (hfsc_history (bare g)) (longest_sent (rows_for arrived (journal g ++ dropped_by v (offered (bare g) + 1))))
-        (more (dropped_by v (offered (bare g) + 1)) le))
+        let P : LabelledEvent → Type 0 = λ z. longest (hfsc_history (unlabelled (z ∷ g))) ≤ longest_sent (rows_for arrived (journal (z ∷ g))) in
+        let w : DrawnWords = record { seed = seed; drawn = drawn (unlabelled g) } in
+        let v = (p.answer (unlabelled g) w x.packet).verdict in
+        subst P (sym x.offer) (longest_offer v x.packet (hfsc_history (unlabelled g)) (longest_sent (rows_for arrived (journal g ++ dropped_by v (offered (unlabelled g) + 1))))
+        (more (dropped_by v (offered (unlabelled g) + 1)) le))
     step (inr x) le f k =
-        let P : Event → Type 0 = λ z. let h : Happened = record { label = e.label; what = z } in longest (hfsc_history (bare (h ∷ g))) ≤ longest_sent (rows_for arrived (journal (h ∷ g))) in
+        let P : Event → Type 0 = λ z. let h : LabelledEvent = record { label = e.label; what = z } in longest (hfsc_history (unlabelled (h ∷ g))) ≤ longest_sent (rows_for arrived (journal (h ∷ g))) in
         let Q : Event → Type 0 = λ z. IsOfArrival (bare_arrivals arrived) e.label z in
         let its = packet_of p rate seed arrived g e some f x (subst Q x.event k) in
         let d : Decision = (e.label, fate.Sent x.sending.start x.sending.end x.sending.rule) in
@@ -213,7 +213,7 @@ longest_within p rate seed arrived (e ∷ g) some f k = step f.0 (longest_within
         let long = its_length (rows_for arrived (journal g)) r x.sending.start x.sending.end x.sending.rule refl in
         let same = ap longest_sent (rows_append arrived (journal g) (d ∷ [])) in
         let len : r.len ≡ x.sending.len = its_len arrived e.label its.packet its.arrival_is ∙ sym its.len in
-        subst P (sym x.event) (let out : longest (hfsc_history (Sent x.sending ∷ bare g)) ≤ longest_sent (rows_for arrived (journal g ++ d ∷ []))
+        subst P (sym x.event) (let out : longest (hfsc_history (Sent x.sending ∷ unlabelled g)) ≤ longest_sent (rows_for arrived (journal g ++ d ∷ []))
         = omega (arith, long, same, len, more (d ∷ []) le) in out)
 
 -- packets that are timely are so up to each
@@ -258,15 +258,15 @@ each_timely curves most before (r ∷ xs) t = (
   each_timely curves most (r ∷ before) xs t,
 )
 
-pub timely_passes : (p : Policy) (rate seed : ℕ) (curves tested : List (Option Curve)) (arrived : List Captured) (g : List Happened) → 0 < rate
-    → HasLaws p rate seed (bare_arrivals arrived) g → ((c : ℕ) → curve_at tested c ≡ curve_of curves c) → IsTimely rate curves (hfsc_history (bare g))
+pub timely_passes : (p : Policy) (rate seed : ℕ) (curves tested : List (Option Curve)) (arrived : List Captured) (g : List LabelledEvent) → 0 < rate
+    → HasLaws p rate seed (bare_arrivals arrived) g → ((c : ℕ) → curve_at tested c ≡ curve_of curves c) → IsTimely rate curves (hfsc_history (unlabelled g))
     → EachRow (EndsInTime tested (ceil_div (units (longest_sent (rows_for arrived (journal g)))) rate)) [] (rows_for arrived (journal g))
 timely_passes p rate seed curves tested arrived g some h same t =
     let most = ceil_div (units (longest_sent (rows_for arrived (journal g)))) rate in
     let long = longest_within p rate seed arrived g some h.each h.of_arrivals in
-    let up = ceil_mono rate (units (longest (hfsc_history (bare g)))) (units (longest_sent (rows_for arrived (journal g)))) some (omega (arith, long)) in
+    let up = ceil_mono rate (units (longest (hfsc_history (unlabelled g)))) (units (longest_sent (rows_for arrived (journal g)))) some (omega (arith, long)) in
     each_timely tested most [] (rows_for arrived (journal g))
     (λ c s e.
     let P : List SentRow → Type 0 = λ rs. AreTimely s most rs in
     subst P (rows_same p rate seed arrived g c some h.each h.of_arrivals)
-    (wider s (ceil_div (units (longest (hfsc_history (bare g)))) rate) most (rows rate (hfsc_history (bare g)) c) up (t c s (sym (same c) ∙ e))))
+    (wider s (ceil_div (units (longest (hfsc_history (unlabelled g)))) rate) most (rows rate (hfsc_history (unlabelled g)) c) up (t c s (sym (same c) ∙ e))))

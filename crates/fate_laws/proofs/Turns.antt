@@ -14,9 +14,9 @@ use Rattle.fate_judge.specs.declared.given.Allowed.{Allowed}
 use Rattle.fate_judge.specs.declared.given.Kind.TheVariants as kind
 use Rattle.fate_judge.specs.Given.{decisions}
 use Rattle.fate_judge.specs.Judged.{Case, PassesAll}
-use Rattle.fate_judge.specs.Order.{IsInOrder}
+use Rattle.fate_judge.specs.Order.{RowIsInOrder}
 use Rattle.fate_judge.specs.Reading.{IsRead}
-use Rattle.fate_judge.specs.Tests.{HaveOne, IsInTime, IsNew, rows_of}
+use Rattle.fate_judge.specs.Tests.{HaveOne, IsInTime, IsNewPacket, rows_of}
 use Rattle.fate_judge.specs.Walk.{EachRow}
 use Rattle.fate_timely.specs.Timely.{StartsInTurn}
 use Rattle.fate_laws.specs.Plays.{AreSome}
@@ -32,7 +32,7 @@ turn_of (Dropped reason) at moment ns e x y = tt
 turn_of (Sent start end rule) at moment ns e x y = (omega (arith, e, x), y)
 
 each_turn : (classes : List Allowed) (arrived : List Arrival) (before rows : List Row) → AreSome arrived → EachRow (IsRead classes arrived) before rows
-    → EachRow (IsInOrder arrived) before rows → EachRow (IsInTime arrived) before rows → EachRow StartsInTurn before rows
+    → EachRow (RowIsInOrder arrived) before rows → EachRow (IsInTime arrived) before rows → EachRow StartsInTurn before rows
 each_turn classes arrived before [] some read order time = tt
 each_turn classes arrived before (r ∷ rows) some read order time =
     let long = some_at arrived (r.number - 1) some (omega (arith, read.0.from_one, read.0.there)) in (
@@ -44,7 +44,7 @@ pub in_turn : (c : Case) → AreSome c.arrived → PassesAll c → EachRow Start
 in_turn c some all = each_turn c.classes c.arrived [] c.rows some (all kind.Reading) (all kind.Order) (all kind.Moments)
 
 -- no number has two rows
-one_more : (n : ℕ) (before : List Row) (r : Row) (b : Bool) → (r.number == n) ≡ b → IsNew before r → rows_of n before ≤ 1 → rows_of n (r ∷ before) ≤ 1
+one_more : (n : ℕ) (before : List Row) (r : Row) (b : Bool) → (r.number == n) ≡ b → IsNewPacket before r → rows_of n before ≤ 1 → rows_of n (r ∷ before) ≤ 1
 one_more n before r true e new few =
     let same : r.number ≡ n = grind (arith, nat_tests, e) in
     let none = ap (λ (m : ℕ). rows_of m before) same in
@@ -54,7 +54,7 @@ one_more n before r false e new few =
     let one = ap (λ (c : Bool). (if c then 1 else 0) + rows_of n before) e in
     omega (arith, few, one)
 
-one_row_of : (n : ℕ) (before rows : List Row) → EachRow IsNew before rows → rows_of n before ≤ 1 → rows_of n rows + rows_of n before ≤ 1
+one_row_of : (n : ℕ) (before rows : List Row) → EachRow IsNewPacket before rows → rows_of n before ≤ 1 → rows_of n rows + rows_of n before ≤ 1
 one_row_of n before [] new few = omega (arith, few)
 one_row_of n before (r ∷ rows) new few =
     let rest = one_row_of n (r ∷ before) rows new.1 (one_more n before r (r.number == n) refl new.0 few) in

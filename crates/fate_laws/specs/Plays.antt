@@ -1,7 +1,7 @@
 -- What is asked of a play's journal besides its laws: which fates can occur, and which packets may be marked.
 use Rattle.std.specs.Prelude.{◌≡◌, ◌<◌, ℕ, true, List, [], ◌∷◌, map}
 use Rattle.altq_model.specs.Arrivals.{Captured, arrival}
-use Rattle.altq_model.specs.History.{Arrival, Decision, Event, Offered, Sent, Happened, was_marked}
+use Rattle.altq_model.specs.History.{Arrival, Decision, Event, Offered, Sent, LabelledEvent, was_marked}
 use Rattle.journal_laws.specs.Journal.{class_of}
 use Rattle.fate_judge.specs.declared.given.Allowed.{Allowed}
 use Rattle.fate_judge.specs.Reading.{can_occur_in}
@@ -13,11 +13,11 @@ CanOccur classes arrived [] = Unit {0}
 CanOccur classes arrived (d ∷ js) = (can_occur_in classes (class_of arrived d.0) d.1 ≡ true) × CanOccur classes arrived js
 
 -- each packet that is sent marked is one that may be
-abbrev pub MayHaveMarked : Packets → List Captured → (n : ℕ) → Event → List Happened → Type 0
+abbrev pub MayHaveMarked : Packets → List Captured → (n : ℕ) → Event → List LabelledEvent → Type 0
 MayHaveMarked p arrived n (Offered a w v) g = Unit {0}
 MayHaveMarked p arrived n (Sent s) g = was_marked n g ≡ true → is_markable p n (arrival arrived n).class ≡ true
 
-abbrev pub MarksAreAllowed : Packets → List Captured → List Happened → Type 0
+abbrev pub MarksAreAllowed : Packets → List Captured → List LabelledEvent → Type 0
 MarksAreAllowed p arrived [] = Unit {0}
 MarksAreAllowed p arrived (e ∷ g) = MayHaveMarked p arrived e.label e.what g × MarksAreAllowed p arrived g
 

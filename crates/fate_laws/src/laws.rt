@@ -2,7 +2,7 @@
 ghost use Rattle.std.specs.Prelude.{◌≡◌, ◌≤◌, ◌<◌, ℕ, List, [], Option, length};
 ghost use Rattle.altq_model.specs.Arrivals.{Captured, bare_arrivals};
 ghost use Rattle.altq_model.specs.Departures.{Dressing, KeepsLength, departures};
-ghost use Rattle.altq_model.specs.History.{Arrival, Decision, Happened, bare, journal};
+ghost use Rattle.altq_model.specs.History.{Arrival, Decision, LabelledEvent, unlabelled, journal};
 ghost use Rattle.altq_model.specs.Laws.{IsInTime};
 ghost use Rattle.altq_model.specs.Play.{Policy};
 ghost use Rattle.fate_busy.specs.Busy.{StartsAtOnce};
@@ -41,10 +41,11 @@ pub fn files_of_plays_pass()
         → PassesAll (record { rate = rate; classes = classes; arrived = bare_arrivals arrived; rows = rows_for arrived js }) }
     ensures busy { (arrived : List Captured) (js : List Decision) → IsBusy (bare_arrivals arrived) js
         → EachRow (StartsAtOnce (bare_arrivals arrived) (rows_for arrived js)) [] (rows_for arrived js) }
-    ensures departures { (dress : Dressing) (p : Packets) (arrived : List Captured) (g : List Happened) → HasFrames p arrived → IsInTime g
+    ensures departures { (dress : Dressing) (p : Packets) (arrived : List Captured) (g : List LabelledEvent) → HasFrames p arrived → IsInTime g
         → MarksAreAllowed p arrived g → AreDepartures dress p (rows_for arrived (journal g)) (departures dress arrived g) }
-    ensures timely { (p : Policy) (rate seed : ℕ) (curves tested : List (Option Curve)) (arrived : List Captured) (g : List Happened) → 0 < rate
-        → HasLaws p rate seed (bare_arrivals arrived) g → ((class : ℕ) → curve_at tested class ≡ curve_of curves class) → IsTimely rate curves (hfsc_history (bare g))
+    ensures timely { (p : Policy) (rate seed : ℕ) (curves tested : List (Option Curve)) (arrived : List Captured) (g : List LabelledEvent) → 0 < rate
+        → HasLaws p rate seed (bare_arrivals arrived) g → ((class : ℕ) → curve_at tested class ≡ curve_of curves class)
+        → IsTimely rate curves (hfsc_history (unlabelled g))
         → EachRow (EndsInTime tested (ceil_div (units (longest_sent (rows_for arrived (journal g)))) rate)) [] (rows_for arrived (journal g)) }
 {}
 

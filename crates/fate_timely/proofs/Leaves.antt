@@ -11,7 +11,7 @@ use Rattle.runtime_curve.specs.declared.Opening.{Opening}
 use Rattle.runtime_curve.specs.declared.Running.{Running}
 use Rattle.runtime_curve.specs.Deadline.{deadline, later_of, reached_at, shifted}
 use Rattle.runtime_curve.specs.Opening.{opening}
-use Rattle.runtime_curve.specs.Running.{StandsFor, last_of}
+use Rattle.runtime_curve.specs.Running.{Represents, last_of}
 use Rattle.hfsc_model.specs.RealTime.{IsOpenBy}
 use Rattle.hfsc_model.specs.Timely.{opens, units_of, Row as SentRow}
 use Rattle.fate_timely.specs.declared.leaf.Leaf.{Leaf}
@@ -105,11 +105,11 @@ some_and None P Q h x = x
 some_and (Some o) P Q h x = h o x
 
 pub next_leaf : (s : Curve) (rs : List SentRow) (old opened new : Leaf) (r : SentRow) (due : Option ℕ) → IsLeaf s rs old
-    → StandsFor new.running s (opens_with r.at rs) → OpenBy opened r.start → opened.running ≡ new.running → opened.units ≡ old.units
+    → Represents new.running s (opens_with r.at rs) → OpenBy opened r.start → opened.running ≡ new.running → opened.units ≡ old.units
     → new.units ≡ old.units + units r.len → new.last ≡ Some r.start → r.at < 2 ^ 64
     → due ≡ deadline s (opens (r ∷ rs)) (units_of (r ∷ rs)) → new.worst ≡ later (late r.end due) old.worst → IsLeaf s (r ∷ rs) new
 next_leaf s rs old opened new r due l running by same before units last early is worst =
-    let P : List Opening → Type 0 = λ os. StandsFor new.running s os in
+    let P : List Opening → Type 0 = λ os. Represents new.running s os in
     let Q : List Opening → Type 0 = λ os. IsOpenBy os (2 ^ 64) in
     let R : Option ℕ → Type 0 = λ o. MatchOption o (last_of new.running ≡ None) (OpenBy new) in
     let N : Running → Type 0 = λ x. IsSomeAnd (last_of x) (λ o. (o.at ≤ r.start) × (o.count ≤ opened.units)) in

@@ -23,7 +23,7 @@ use Rattle.fate_timely.specs.Leaf.{IsLeaf, last_start}
 use Rattle.fate_timely.specs.Timely.{EndsInTime, ForCurve, curve_at, is_in_time, sent_rows, with_sent}
 
 -- a leaf that is held, and its curve
-pub record Held (curves : List (Option Curve)) (before : List Row) (class : ℕ) (leaf : Leaf) : Type 0 where
+pub record HeldLeaf (curves : List (Option Curve)) (before : List Row) (class : ℕ) (leaf : Leaf) : Type 0 where
   pub curve : Curve
   pub of : curve_at curves class ≡ Some curve
   pub leaf_is : IsLeaf curve (sent_rows class before) leaf
@@ -38,7 +38,7 @@ held_of (Some s) class before (Some x) leaf h e =
     (s, refl, subst P same h)
 
 pub held : (curves : List (Option Curve)) (before : List Row) (leaves : List (Option Leaf)) (class : ℕ) (leaf : Leaf) → AreDues curves before leaves
-    → leaf_at leaves class ≡ Some leaf → Held curves before class leaf
+    → leaf_at leaves class ≡ Some leaf → HeldLeaf curves before class leaf
 held curves before leaves class leaf d e =
     let x = held_of (curve_at curves class) class before (leaf_at leaves class) leaf (d.each class) e in
     record { curve = x.0; of = x.1; leaf_is = x.2 }

@@ -4,7 +4,7 @@ use Rattle.service_curve.specs.declared.Curve.{Curve}
 use Rattle.service_curve.specs.Curve.{IsInRange}
 use Rattle.runtime_curve.specs.declared.Opening.{Opening}
 use Rattle.runtime_curve.specs.Opening.{opening}
-use Rattle.runtime_curve.specs.Running.{StandsFor, last_of}
+use Rattle.runtime_curve.specs.Running.{Represents, last_of}
 use Rattle.hfsc_model.specs.RealTime.{IsOpenBy}
 use Rattle.hfsc_model.specs.Timely.{opens, units_of, Row as SentRow}
 use Rattle.fate_timely.specs.declared.leaf.Leaf.{Leaf}
@@ -35,7 +35,7 @@ IsSound leaf = MatchOption leaf.last (last_of leaf.running ≡ None) (OpenBy lea
 -- it stands for the packets that the class sent
 pub record IsLeaf (s : Curve) (rs : List SentRow) (leaf : Leaf) : Type 0 where
   pub range : IsInRange s
-  pub running : StandsFor leaf.running s (opens rs)
+  pub running : Represents leaf.running s (opens rs)
   pub units : leaf.units ≡ units_of rs
   pub last : leaf.last ≡ last_start rs
   pub sound : IsSound leaf

@@ -88,11 +88,13 @@ impl Dues {
         requires few { UnitsAreUpTo (2 ^ 97) self.old.leaves.items }
         requires known { IsToTell self.old.leaves.items row.now }
         ensures few { (n : ℕ) → UnitsAreUpTo n self.old.leaves.items → UnitsAreUpTo (n + 2 ^ 65) self.new.leaves.items }
-        ensures passes { result ≡ true → (curves : List (Option Curve)) (before : List Row) → AreDues curves before self.old.leaves.items → StartsInTurn before row.now
+        ensures passes { result ≡ true → (curves : List (Option Curve)) (before : List Row) → AreDues curves before self.old.leaves.items
+            → StartsInTurn before row.now
             → (m : ℕ) → most ≡ Some m → EndsInTime curves m before row.now }
         ensures stands { (curves : List (Option Curve)) (before : List Row) → AreDues curves before self.old.leaves.items → StartsInTurn before row.now
             → AreDues curves (row.now ∷ before) self.new.leaves.items }
-        ensures fails { result ≡ false → (curves : List (Option Curve)) (before : List Row) → AreDues curves before self.old.leaves.items → StartsInTurn before row.now
+        ensures fails { result ≡ false → (curves : List (Option Curve)) (before : List Row) → AreDues curves before self.old.leaves.items
+            → StartsInTurn before row.now
             → (m : ℕ) × (most ≡ Some m) × (EndsInTime curves m before row.now → ⊥) }
     {
         let Fate::Sent { start, end, .. } = row.fate else {

@@ -5,7 +5,7 @@ ghost use Rattle.service_curve.specs.declared.Curve.{Curve};
 ghost use Rattle.service_curve.specs.Curve.{IsInRange};
 ghost use Rattle.runtime_curve.specs.Deadline.{deadline};
 ghost use Rattle.runtime_curve.specs.Opening.{RisesFromZero};
-ghost use Rattle.runtime_curve.specs.Running.{StandsFor};
+ghost use Rattle.runtime_curve.specs.Running.{Represents};
 ghost use Rattle.hfsc_model.specs.Timely.{opens, units_of, Row as SentRow};
 ghost use Rattle.fate_timely.specs.Leaf.{IsLeaf, IsSound, OpenBy, opens_at, opens_with};
 
@@ -57,7 +57,7 @@ impl Leaf {
         ensures units { self.new.units ≡ self.old.units }
         ensures last { self.new.last ≡ self.old.last }
         ensures worst { self.new.worst ≡ self.old.worst }
-        ensures opens { (s : Curve) (rs : List SentRow) → IsLeaf s rs self.old → StandsFor self.new.running s (opens_with at rs) }
+        ensures opens { (s : Curve) (rs : List SentRow) → IsLeaf s rs self.old → Represents self.new.running s (opens_with at rs) }
         ensures open { (t : ℕ) → at ≤ t → IfSome self.old.last (λ last. last ≤ t) → OpenBy self.new t }
     {
         if opens_at(self.last, at) {
@@ -75,8 +75,14 @@ impl Leaf {
         ensures units { self.new.units ≡ self.old.units + units len }
         ensures bounded { IfSome result (λ t. t < 2 ^ 120) }
         ensures due { (s : Curve) (rs : List SentRow) → IsLeaf s rs self.old
-            → result ≡ deadline s (opens (record { at = at; len = len; start = start; end = end } ∷ rs)) (units_of (record { at = at; len = len; start = start; end = end } ∷ rs)) }
-        ensures stands { (s : Curve) (rs : List SentRow) → IsLeaf s rs self.old → IsLeaf s (record { at = at; len = len; start = start; end = end } ∷ rs) self.new }
+            → result ≡ deadline s (opens (record { at = at; len = len; start = start; end = end } ∷ rs)) (units_of (record {
+              at = at;
+              len = len;
+              start = start;
+              end = end;
+            } ∷ rs)) }
+        ensures stands { (s : Curve) (rs : List SentRow) → IsLeaf s rs self.old
+            → IsLeaf s (record { at = at; len = len; start = start; end = end } ∷ rs) self.new }
     {
         self.open(at);
         self.units += u128::from(len) * BYTE;

@@ -10,9 +10,9 @@ use Rattle.fate_judge.specs.declared.given.Allowed.{Allowed}
 use Rattle.fate_judge.specs.declared.given.Kind.TheVariants as kind
 use Rattle.fate_judge.specs.Given.{decision_of, decisions}
 use Rattle.fate_judge.specs.Judged.{Case, PassesAll}
-use Rattle.fate_judge.specs.Order.{IsInOrder}
+use Rattle.fate_judge.specs.Order.{RowIsInOrder}
 use Rattle.fate_judge.specs.Reading.{IsRead}
-use Rattle.fate_judge.specs.Tests.{HaveOne, IsInTime, IsNew, rows_of}
+use Rattle.fate_judge.specs.Tests.{HaveOne, IsInTime, IsNewPacket, rows_of}
 use Rattle.fate_judge.specs.Walk.{EachRow}
 use Rattle.fate_judge.specs.Ends.{HasEnd}
 use Rattle.fate_timely.specs.declared.given.Late.{Late}
@@ -45,7 +45,7 @@ is_same : (m n : ℕ) → (m == n) ≡ true → m ≡ n
 is_same m n e = grind (arith, nat_tests, e)
 
 -- a number that no row before has, has one row at most
-once_by : (n : ℕ) (r : Row) (before : List Row) → IsNew before r → rows_of n before ≤ 1 → ((r.number == n) ≡ true) ⊎ ((r.number == n) ≡ false)
+once_by : (n : ℕ) (r : Row) (before : List Row) → IsNewPacket before r → rows_of n before ≤ 1 → ((r.number == n) ≡ true) ⊎ ((r.number == n) ≡ false)
     → rows_of n (r ∷ before) ≤ 1
 once_by n r before new few (inl e) =
     let more = one_more (r.number == n) (rows_of n before) e in
@@ -53,7 +53,7 @@ once_by n r before new few (inl e) =
     omega (arith, more, none)
 once_by n r before new few (inr e) = let more = no_more (r.number == n) (rows_of n before) e in omega (arith, more, few)
 
-once : (n : ℕ) (before rows : List Row) → EachRow IsNew before rows → rows_of n before ≤ 1 → rows_of n rows + rows_of n before ≤ 1
+once : (n : ℕ) (before rows : List Row) → EachRow IsNewPacket before rows → rows_of n before ≤ 1 → rows_of n rows + rows_of n before ≤ 1
 once n before [] h few = omega (arith, few)
 once n before (r ∷ rows) h few =
     let here = once_by n r before h.0 few (same_or_not r.number n) in
@@ -95,11 +95,11 @@ pub journal_of : (c : Case) → PassesAll c → IsJournal c.rate c.arrived (deci
 journal_of c p = record {
   conserved = conserved c.classes c.arrived c.rows (p kind.Reading) (p kind.EachOnce);
   decisions = record {
-    sends_in_order = each_after (SendsInOrder c.arrived) (IsInOrder c.arrived) (λ b r h. h.sends) [] c.rows (p kind.Order);
-    drops_in_order = each_after DropsInOrder (IsInOrder c.arrived) (λ b r h. h.drops) [] c.rows (p kind.Order);
-    starts_in_order = each_after StartsInOrder (IsInOrder c.arrived) (λ b r h. h.starts) [] c.rows (p kind.Order);
-    drops_at_arrival = each_after (DropsAtArrival c.arrived) (IsInOrder c.arrived) (λ b r h. h.drop_at_arrival) [] c.rows (p kind.Order);
-    sends_after_drops = each_after (SendsAfterDrops c.arrived) (IsInOrder c.arrived) (λ b r h. h.send_after_drops) [] c.rows (p kind.Order);
+    sends_in_order = each_after (SendsInOrder c.arrived) (RowIsInOrder c.arrived) (λ b r h. h.sends) [] c.rows (p kind.Order);
+    drops_in_order = each_after DropsInOrder (RowIsInOrder c.arrived) (λ b r h. h.drops) [] c.rows (p kind.Order);
+    starts_in_order = each_after StartsInOrder (RowIsInOrder c.arrived) (λ b r h. h.starts) [] c.rows (p kind.Order);
+    drops_at_arrival = each_after (DropsAtArrival c.arrived) (RowIsInOrder c.arrived) (λ b r h. h.drop_at_arrival) [] c.rows (p kind.Order);
+    sends_after_drops = each_after (SendsAfterDrops c.arrived) (RowIsInOrder c.arrived) (λ b r h. h.send_after_drops) [] c.rows (p kind.Order);
     after_arrival = each_after (StartsAfterArrival c.arrived) (IsInTime c.arrived) (λ b r h. h.after_arrival) [] c.rows (p kind.Moments);
     after_end = each_after StartsAfterEnd (IsInTime c.arrived) (λ b r h. h.after_end) [] c.rows (p kind.Moments);
     ends = each_after (EndsAsLink c.rate c.arrived) (HasEnd c.rate c.arrived) (λ b r h. h) [] c.rows (p kind.Ends);

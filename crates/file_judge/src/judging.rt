@@ -34,9 +34,11 @@ pub fn judge(
 ) -> Result<Vec<Late>, Unverified>
     requires interface { IsInterface interface.now }
     requires few { length records.now ≤ 4000000 }
-    ensures verified { IfOk result (λ late. (capture : List Original) (text : List ℕ) → records.now ≡ map shown_of capture → HasFates (queue_names interface.now) text fates.now
+    ensures verified { IfOk result (λ late. (capture : List Original) (text : List ℕ) → records.now ≡ map shown_of capture
+        → HasFates (queue_names interface.now) text fates.now
         → AreVerified (record { interface = interface.now; records = capture; departures = departures.now; fates = text }) late.items) }
-    ensures refuted { IfErr result (λ u. (capture : List Original) (text : List ℕ) → records.now ≡ map shown_of capture → HasFates (queue_names interface.now) text fates.now
+    ensures refuted { IfErr result (λ u. (capture : List Original) (text : List ℕ) → records.now ≡ map shown_of capture
+        → HasFates (queue_names interface.now) text fates.now
         → IsUnverified (record { interface = interface.now; records = capture; departures = departures.now; fates = text }) u) }
 {
     let rows = match fates {

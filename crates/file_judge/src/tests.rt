@@ -36,8 +36,18 @@ pub(crate) fn judge_rows(
     rows: &[Row],
 ) -> Result<(), Unverified>
     requires { IsInterface interface.now }
-    ensures passed { OnOk result (PassesAll (record { rate = interface.now.rate; classes = allowed_of interface.now; arrived = bare_arrivals packets.now; rows = rows.now })) }
-    ensures refuted { IfErr result (IfRows (IsRefutedBy (record { rate = interface.now.rate; classes = allowed_of interface.now; arrived = bare_arrivals packets.now; rows = rows.now }))) }
+    ensures passed { OnOk result (PassesAll (record {
+      rate = interface.now.rate;
+      classes = allowed_of interface.now;
+      arrived = bare_arrivals packets.now;
+      rows = rows.now;
+    })) }
+    ensures refuted { IfErr result (IfRows (IsRefutedBy (record {
+      rate = interface.now.rate;
+      classes = allowed_of interface.now;
+      arrived = bare_arrivals packets.now;
+      rows = rows.now;
+    }))) }
 {
     let classes = allowed(alloc, interface)?;
     match judge_order(alloc, interface.rate, &classes, packets, rows) {
@@ -58,9 +68,15 @@ pub(crate) fn judge_busy(
     rows: &[Row],
 ) -> Result<(), Unverified>
     requires rising { AreRising (bare_arrivals packets.now) }
-    requires passed { PassesAll (record { rate = interface.now.rate; classes = allowed_of interface.now; arrived = bare_arrivals packets.now; rows = rows.now }) }
+    requires passed { PassesAll (record {
+      rate = interface.now.rate;
+      classes = allowed_of interface.now;
+      arrived = bare_arrivals packets.now;
+      rows = rows.now;
+    }) }
     ensures passed { OnOk result (is_unlimited interface.now ≡ true → EachRow (StartsAtOnce (bare_arrivals packets.now) rows.now) [] rows.now) }
-    ensures refuted { IfErr result (IfTest Test.Busy (λ row. (is_unlimited interface.now ≡ true) × FirstFails (StartsAtOnce (bare_arrivals packets.now) rows.now) rows.now row)) }
+    ensures refuted { IfErr result (IfTest Test.Busy (λ row. (is_unlimited interface.now ≡ true)
+        × FirstFails (StartsAtOnce (bare_arrivals packets.now) rows.now) rows.now row)) }
 {
     if !is_unlimited(interface) {
         return Ok(());
@@ -85,8 +101,16 @@ pub(crate) fn judge_departures(
     departures: &[u8],
 ) -> Result<(), Unverified>
     requires { ⟦<Classifier as Classify>⟧.dressed classify.now ≡ dress_in interface.now }
-    ensures passed { OnOk result (AreDepartures (dress_in interface.now) (record { arrived = bare_arrivals packets.now; frames = map bytes_of records.now; marks = marks_of interface.now }) rows.now departures.now) }
-    ensures refuted { IfErr result (IfTest Test.Departures (DepartOtherwise (dress_in interface.now) (record { arrived = bare_arrivals packets.now; frames = map bytes_of records.now; marks = marks_of interface.now }) rows.now departures.now)) }
+    ensures passed { OnOk result (AreDepartures (dress_in interface.now) (record {
+      arrived = bare_arrivals packets.now;
+      frames = map bytes_of records.now;
+      marks = marks_of interface.now;
+    }) rows.now departures.now) }
+    ensures refuted { IfErr result (IfTest Test.Departures (DepartOtherwise (dress_in interface.now) (record {
+      arrived = bare_arrivals packets.now;
+      frames = map bytes_of records.now;
+      marks = marks_of interface.now;
+    }) rows.now departures.now)) }
 {
     let marks = marks(alloc, interface)?;
     let frames = Frames {

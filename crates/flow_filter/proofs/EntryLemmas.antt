@@ -9,7 +9,7 @@ use Rattle.packet_heads.specs.Flow.{Heads}
 use Rattle.flow_filter.specs.declared.entry.Entry4.{Entry4}
 use Rattle.flow_filter.specs.declared.entry.Entry6.{Entry6}
 use Rattle.flow_filter.specs.declared.numbers.Numbers.TheVariants as numbers
-use Rattle.flow_filter.specs.Entries.{StandsFor4, StandsFor6, is_under, rest_fits, rest_of}
+use Rattle.flow_filter.specs.Entries.{Represents4, Represents6, is_under, rest_fits, rest_of}
 use Rattle.flow_filter.specs.Matches.{addresses_agree_4, addresses_agree_6, agrees_under, agrees_within, is_none_or, matches, ports_agree, rest_agrees, tos_agrees}
 use Rattle.flow_filter.specs.Numbers.{IsNumberOf, first_ones}
 use Rattle.flow_filter.proofs.NumberLemmas.{short_under, other_within, under_by_number, within_by_number}
@@ -47,7 +47,7 @@ module _ (f : Filter) (t tm s sm : List ℕ) (e : Entry4) (addresses : f.address
       ≡ ((agrees_under tm t heads.target && agrees_under sm s heads.source) && rest_agrees f heads.tos heads.protocol heads.ports)
   agree_4 heads = ap (λ (a : Addresses). addresses_agree_4 a heads.source heads.target && rest_agrees f heads.tos heads.protocol heads.ports) addresses
 
-  pub stands_4 : StandsFor4 e (Some f)
+  pub stands_4 : Represents4 e (Some f)
   stands_4 heads None short =
       let none : (agrees_under tm t heads.target ≡ false) ⊎ (agrees_under sm s heads.source ≡ false) =
       ⊎_elim (λ h. inr (short_under heads.source sm s (omega (arith, source.own_long)))) (λ h. inl (short_under heads.target tm t (omega (arith, target.own_long)))) short in
@@ -60,23 +60,23 @@ module _ (f : Filter) (t tm s sm : List ℕ) (e : Entry4) (addresses : f.address
       (in_order (agrees_under tm t heads.target) (agrees_under sm s heads.source) (ports_agree f heads.ports) (is_none_or f.protocol heads.protocol) (tos_agrees f.tos heads.tos))
 
 -- the same of IPv6, under the first bits
-pub record IsWithin (bits : ℕ) (own : List ℕ) (m o : ℕ) : Type 0 where
+pub record IsInMask (bits : ℕ) (own : List ℕ) (m o : ℕ) : Type 0 where
   pub own_long : length own ≡ 16
   pub mask_is : m ≡ first_ones bits
   pub own_is : IsNumberOf 16 own o
 
-by_number_6 : (bits : ℕ) (own : List ℕ) (m o : ℕ) → IsWithin bits own m o → (address : List ℕ) (n : ℕ) → length address ≡ 16 → IsNumberOf 16 address n
+by_number_6 : (bits : ℕ) (own : List ℕ) (m o : ℕ) → IsInMask bits own m o → (address : List ℕ) (n : ℕ) → length address ≡ 16 → IsNumberOf 16 address n
     → is_under m o n ≡ agrees_within bits own address
 by_number_6 bits own m o w address n long is =
     ap (λ (k : ℕ). is_under k o n) w.mask_is ∙ within_by_number bits address own n o long w.own_long is w.own_is
 
 module _ (f : Filter) (t : List ℕ) (tl : ℕ) (s : List ℕ) (sl : ℕ) (e : Entry6) (addresses : f.addresses ≡ own.V6 t tl s sl)
-    (rest : e.rest ≡ rest_of f) (target : IsWithin tl t e.target_mask e.target) (source : IsWithin sl s e.source_mask e.source) where
+    (rest : e.rest ≡ rest_of f) (target : IsInMask tl t e.target_mask e.target) (source : IsInMask sl s e.source_mask e.source) where
   agree_6 : (heads : Heads) → matches f (flow.V6 heads)
       ≡ ((agrees_within tl t heads.target && agrees_within sl s heads.source) && rest_agrees f heads.tos heads.protocol heads.ports)
   agree_6 heads = ap (λ (a : Addresses). addresses_agree_6 a heads.source heads.target && rest_agrees f heads.tos heads.protocol heads.ports) addresses
 
-  pub stands_6 : StandsFor6 e (Some f)
+  pub stands_6 : Represents6 e (Some f)
   stands_6 heads None short =
       let none : (agrees_within tl t heads.target ≡ false) ⊎ (agrees_within sl s heads.source ≡ false) =
       ⊎_elim (λ h. inr (other_within sl heads.source s (λ same. h (same ∙ source.own_long)))) (λ h. inl (other_within tl heads.target t (λ same. h (same ∙ target.own_long)))) short in

@@ -12,7 +12,7 @@ use Rattle.std.proofs.lemmas.Option.{slice_get_past}
 use Rattle.conf_tree.specs.declared.filter.Filter.{Filter}
 use Rattle.flow_filter.specs.declared.ports.Filed.{Filed}
 use Rattle.flow_filter.specs.declared.ports.Group.{Group}
-use Rattle.flow_filter.specs.Filed.{HoldsAll, IsFiledByRank, IsInOrder, port_in}
+use Rattle.flow_filter.specs.Filed.{HoldsAll, IsFiledByRank, EntriesAreInOrder, port_in}
 use Rattle.flow_filter.specs.Ranked.{filter_at}
 use Rattle.flow_filter.proofs.Ranks.{ties_far}
 
@@ -60,7 +60,7 @@ filed_skip filters places group count entries f is = record {
 -- sorted by their ports, those of one port keep the order in which they are asked
 pub in_order : (filters : List Filter) (places : List ℕ) (group : Group) (count : ℕ) (entries sorted : List Filed)
     → IsFiledByRank filters places group count entries → IsSortedByKey (λ e. e.port) nat_cmp sorted
-    → IsStableByKey (λ e. e.port) nat_cmp entries sorted → IsInOrder sorted
+    → IsStableByKey (λ e. e.port) nat_cmp entries sorted → EntriesAreInOrder sorted
 in_order filters places group count entries sorted f by_port stable =
     let rise : IsNonDecreasingBy (λ e. e.port) sorted = IsNonDecreasingBy-from_sort (λ e. e.port) sorted by_port in
     record {

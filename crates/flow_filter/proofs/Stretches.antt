@@ -10,7 +10,7 @@ use Rattle.std.proofs.lemmas.List.Elements.{All-replicate, All-set}
 use Rattle.std.proofs.lemmas.Option.{slice_get-get_or, slice_get_past, get_or_from_slice_get}
 use Rattle.flow_filter.specs.declared.ports.Filed.{Filed}
 use Rattle.flow_filter.specs.declared.ports.Stretch.{Stretch}
-use Rattle.flow_filter.specs.Filed.{IsInOrder}
+use Rattle.flow_filter.specs.Filed.{EntriesAreInOrder}
 use Rattle.flow_filter.specs.Search.{AreStretches, BeginsAt, IsFirstFit, IsFirstUnder, IsStretch, is_at}
 
 less : (m n : ℕ) → ltb m n ≡ true → m < n
@@ -67,7 +67,7 @@ at_there filed port k e = elim (cases_lt k (length filed)) [
 ]
 
 -- up to a place at which no more of them stands
-ends_at : (filed : List Filed) (port start end : ℕ) → IsInOrder filed → BeginsAt filed port start → start ≤ end → end ≤ length filed
+ends_at : (filed : List Filed) (port start end : ℕ) → EntriesAreInOrder filed → BeginsAt filed port start → start ≤ end → end ≤ length filed
     → ((k : ℕ) (d : Filed) → start ≤ k → k < end → (get_or filed k d).port ≡ port) → is_at filed port end ≡ false → IsStretch filed port start end
 ends_at filed port start end order begins low within its gone = record {
   within = within;
@@ -84,11 +84,11 @@ ends_at filed port start end order begins low within its gone = record {
 }
 
 -- no filter of the port, or one
-pub no_stretch : (filed : List Filed) (port start : ℕ) → IsInOrder filed → BeginsAt filed port start → is_at filed port start ≡ false → IsStretch filed port start start
+pub no_stretch : (filed : List Filed) (port start : ℕ) → EntriesAreInOrder filed → BeginsAt filed port start → is_at filed port start ≡ false → IsStretch filed port start start
 no_stretch filed port start order begins gone =
     ends_at filed port start start order begins (omega arith) begins.within (λ k d low high. absurd (omega arith)) gone
 
-pub one_alone : (filed : List Filed) (port start : ℕ) → IsInOrder filed → BeginsAt filed port start → is_at filed port start ≡ true
+pub one_alone : (filed : List Filed) (port start : ℕ) → EntriesAreInOrder filed → BeginsAt filed port start → is_at filed port start ≡ true
     → is_at filed port (start + 1) ≡ false → IsStretch filed port start (start + 1)
 one_alone filed port start order begins found gone =
     let there = at_there filed port start found in
@@ -111,7 +111,7 @@ pub same_stretches : (filed : List Filed) (count : ℕ) (one : Stretch) → IsSt
 same_stretches filed count one its = All-replicate (λ (s : Stretch). IsStretch filed s.port s.start s.end) count one its
 
 -- what is found among the entries of a port, each of which fits where the test holds of its number
-module _ (filed : List Filed) (port start end : ℕ) (fits test : ℕ → Bool) (order : IsInOrder filed) (stretch : IsStretch filed port start end)
+module _ (filed : List Filed) (port start end : ℕ) (fits test : ℕ → Bool) (order : EntriesAreInOrder filed) (stretch : IsStretch filed port start end)
     (same : (k : ℕ) (d : Filed) → k < length filed → fits k ≡ test (get_or filed k d).rank) where
   fits_there : (rank : ℕ) (holds : Contains filed (record { port = port; rank = rank })) → test rank ≡ true
       → (start ≤ holds.0) × (holds.0 < end) × (fits holds.0 ≡ true)

@@ -65,12 +65,12 @@ abbrev pub matches_if : Option Filter → Flow → Bool
 matches_if found flow = option_map_or (λ f. matches f flow) found false
 
 -- an entry takes exactly the flows of its version that the filter matches
-abbrev pub StandsFor4 : Entry4 → Option Filter → Type 0
-StandsFor4 entry found =
+abbrev pub Represents4 : Entry4 → Option Filter → Type 0
+Represents4 entry found =
     (heads : Heads) (o : Option Numbers) → AreNumbersOf (flow.V4 heads) o → takes_4 entry o ≡ matches_if found (flow.V4 heads)
 
-abbrev pub StandsFor6 : Entry6 → Option Filter → Type 0
-StandsFor6 entry found =
+abbrev pub Represents6 : Entry6 → Option Filter → Type 0
+Represents6 entry found =
     (heads : Heads) (o : Option Numbers) → AreNumbersOf (flow.V6 heads) o → takes_6 entry o ≡ matches_if found (flow.V6 heads)
 
 -- whether the entry at a place takes a flow

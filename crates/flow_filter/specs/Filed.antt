@@ -35,7 +35,7 @@ abbrev pub port_in : Group → Filter → Option ℕ
 port_in group f = port_among group.version (version_of f.addresses) (port_on group.side f)
 
 -- in the order of their ports, and of those with one port in the order in which they are asked
-pub record IsInOrder (entries : List Filed) : Type 0 where
+pub record EntriesAreInOrder (entries : List Filed) : Type 0 where
   pub ports_rise : IsNonDecreasingBy (λ e. e.port) entries
   pub ranks_rise : (i j : ℕ) (d : Filed) → i ≤ j → j < length entries → (slice_index_or entries i d).port ≡ (slice_index_or entries j d).port
       → (slice_index_or entries i d).rank ≤ (slice_index_or entries j d).rank

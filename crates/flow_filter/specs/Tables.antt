@@ -9,14 +9,14 @@ use Rattle.flow_filter.specs.declared.ports.Version.{Version}
 use Rattle.flow_filter.specs.declared.sides.Sides.{Sides}
 use Rattle.flow_filter.specs.declared.table.Table.{Table}
 use Rattle.flow_filter.specs.Entries.{StandFor, fits_at, of_version}
-use Rattle.flow_filter.specs.Filed.{HoldsAll, IsInOrder}
+use Rattle.flow_filter.specs.Filed.{HoldsAll, EntriesAreInOrder}
 use Rattle.flow_filter.specs.Numbers.{AreNumbersOf}
 use Rattle.flow_filter.specs.Ranked.{matches_at}
 use Rattle.flow_filter.specs.Search.{AreStretches, IsFirst}
 
 -- every filter of a group stands there under its port, and in numbers
 pub record IsTable (group : Group) (filters : List Filter) (places : List ℕ) (table : Table) : Type 0 where
-  pub order : IsInOrder table.filed.items
+  pub order : EntriesAreInOrder table.filed.items
   pub all : HoldsAll filters places group table.filed.items
   pub stand : StandFor group.version filters places table.filed.items (fits_at table.entries) (length table.filed.items)
   pub likely : AreStretches table.filed.items table.likely.items

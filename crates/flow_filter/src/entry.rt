@@ -1,6 +1,6 @@
 //! A filter in numbers, made once, so that a filter that does not match costs a few loads and compares.
 ghost use Rattle.std.specs.Prelude.{◌≡◌, Some, option_copied};
-ghost use Rattle.flow_filter.specs.Entries.{StandsFor4, StandsFor6, rest_of};
+ghost use Rattle.flow_filter.specs.Entries.{Represents4, Represents6, rest_of};
 ghost use Rattle.flow_filter.specs.Numbers.{first_ones};
 
 use crate::numbers::{number_4, number_6};
@@ -86,7 +86,7 @@ fn first_ones(bits: u8) -> u128
 
 /// The entry of a filter among those of IPv4; one of IPv6 matches no flow there.
 fn entry_of_4(filter: &Filter) -> Entry4
-    ensures { StandsFor4 result (Some filter.now) }
+    ensures { Represents4 result (Some filter.now) }
 {
     match &filter.addresses {
         Addresses::V4 {
@@ -107,7 +107,7 @@ fn entry_of_4(filter: &Filter) -> Entry4
 
 /// The entry of a filter among those of IPv6; one of IPv4 matches no flow there.
 fn entry_of_6(filter: &Filter) -> Entry6
-    ensures { StandsFor6 result (Some filter.now) }
+    ensures { Represents6 result (Some filter.now) }
 {
     match &filter.addresses {
         Addresses::V4 { .. } => NOTHING_6,
@@ -128,7 +128,7 @@ fn entry_of_6(filter: &Filter) -> Entry6
 
 /// The entry of a filter, if there is one, among those of IPv4.
 pub(crate) fn entry_4(filter: Option<&Filter>) -> Entry4
-    ensures { StandsFor4 result (option_copied filter.entry) }
+    ensures { Represents4 result (option_copied filter.entry) }
 {
     match filter {
         Some(filter) => entry_of_4(filter),
@@ -138,7 +138,7 @@ pub(crate) fn entry_4(filter: Option<&Filter>) -> Entry4
 
 /// The same among those of IPv6.
 pub(crate) fn entry_6(filter: Option<&Filter>) -> Entry6
-    ensures { StandsFor6 result (option_copied filter.entry) }
+    ensures { Represents6 result (option_copied filter.entry) }
 {
     match filter {
         Some(filter) => entry_of_6(filter),

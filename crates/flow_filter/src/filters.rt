@@ -61,7 +61,7 @@ impl Filters {
     /// The number of the class of a flow: that of the filter that wins among those that match, or the default class where
     /// none does, as for every `Other`. Addresses are of four or sixteen bytes in the flow of a frame. An IPv4 address of
     /// fewer bytes, or an IPv6 address of another length, matches no filter; of a longer IPv4 address only the first four
-    /// bytes are compared. Takes no memory. Only filters of the flow's version are asked, and of those that fix a port only
+    /// bytes are compared. Does not allocate. Only filters of the flow's version are asked, and of those that fix a port only
     /// those of the flow's ports; they are found at one look or by bisection, and asked up to the first that matches, at a few loads and
     /// compares of numbers each. Those that fix none are asked likewise. See altq.conf(5).
     pub fn class(&self, heads: &FlowHeads) -> u32

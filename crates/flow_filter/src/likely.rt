@@ -1,6 +1,6 @@
 //! Where the filters of a port begin and where they end, mostly at one look.
 ghost use Rattle.std.specs.Prelude.{IfOk};
-ghost use Rattle.flow_filter.specs.Filed.{IsInOrder};
+ghost use Rattle.flow_filter.specs.Filed.{EntriesAreInOrder};
 ghost use Rattle.flow_filter.specs.Search.{AreStretches, IsStretch};
 
 use crate::ports::{Filed, Stretch, search};
@@ -16,7 +16,7 @@ const FEW: usize = 8;
 /// Of each remainder the stretch of a port that leaves it, if any filter has such a port, else that of port 0. None where filters are
 /// few.
 pub(crate) fn likely_stretches(alloc: Global, filed: &[Filed]) -> Result<Vec<Stretch>, NoMemory>
-    ensures { IfOk result (λ likely. IsInOrder filed.now → AreStretches filed.now likely.items) }
+    ensures { IfOk result (λ likely. EntriesAreInOrder filed.now → AreStretches filed.now likely.items) }
 {
     if filed.len() < FEW {
         return Ok(Vec::new(alloc));
@@ -33,7 +33,7 @@ pub(crate) fn likely_stretches(alloc: Global, filed: &[Filed]) -> Result<Vec<Str
 /// The stretch of a port: the one that is kept, if it is that port's, else by a search.
 #[inline]
 pub(crate) fn stretch(filed: &[Filed], likely: &[Stretch], port: u16) -> Stretch
-    ensures { IsInOrder filed.now → AreStretches filed.now likely.now → IsStretch filed.now port result.start result.end }
+    ensures { EntriesAreInOrder filed.now → AreStretches filed.now likely.now → IsStretch filed.now port result.start result.end }
 {
     match likely.get(usize::from(port) % KEPT) {
         Some(kept) if kept.port == port => *kept,

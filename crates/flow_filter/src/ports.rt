@@ -1,6 +1,6 @@
 //! Filters under the ports that they fix.
 ghost use Rattle.std.specs.Prelude.{◌≡◌, ◌<◌, ◌≤◌, ◌+◌, ◌^◌, ℕ, IfOk, length, option_and_then, true};
-ghost use Rattle.flow_filter.specs.Filed.{HoldsAll, IsFiledByRank, IsInOrder, port_in, port_on, version_of};
+ghost use Rattle.flow_filter.specs.Filed.{HoldsAll, IsFiledByRank, EntriesAreInOrder, port_in, port_on, version_of};
 ghost use Rattle.flow_filter.specs.Ranked.{filter_at};
 ghost use Rattle.flow_filter.specs.Search.{BeginsAt, IsStretch, is_at};
 
@@ -111,7 +111,7 @@ pub(crate) fn filed_by_port(
     filters: &[Filter],
     places: &[u32],
 ) -> Result<Vec<Filed>, NoMemory>
-    ensures order { IfOk result (λ entries. IsInOrder entries.items) }
+    ensures order { IfOk result (λ entries. EntriesAreInOrder entries.items) }
     ensures all { IfOk result (λ entries. HoldsAll filters.now places.now group entries.items) }
 {
     let mut entries = filed_by_rank(alloc, group, filters, places)?;
@@ -129,7 +129,7 @@ fn is_at(filed: &[Filed], port: u16, place: usize) -> bool
 
 /// Where those of a port end that begin at a place. Most ports have no filter or one, so these are tried before a search.
 fn end_of(filed: &[Filed], port: u16, start: usize) -> usize
-    ensures { IsInOrder filed.now → BeginsAt filed.now port start → IsStretch filed.now port start result }
+    ensures { EntriesAreInOrder filed.now → BeginsAt filed.now port start → IsStretch filed.now port start result }
 {
     if !is_at(filed, port, start) {
         return start;
@@ -142,7 +142,7 @@ fn end_of(filed: &[Filed], port: u16, start: usize) -> usize
 
 /// Where those of a port begin.
 fn start_of(filed: &[Filed], port: u16) -> usize
-    ensures { IsInOrder filed.now → BeginsAt filed.now port result }
+    ensures { EntriesAreInOrder filed.now → BeginsAt filed.now port result }
 {
     filed.partition_point(|one| one.port < port)
 }
@@ -150,7 +150,7 @@ fn start_of(filed: &[Filed], port: u16) -> usize
 /// The stretch of a port among filters in the order of their ports, by a search.
 pub(crate) fn search(filed: &[Filed], port: u16) -> Stretch
     ensures port { result.port ≡ port }
-    ensures places { IsInOrder filed.now → IsStretch filed.now port result.start result.end }
+    ensures places { EntriesAreInOrder filed.now → IsStretch filed.now port result.start result.end }
 {
     let start = start_of(filed, port);
     Stretch {

@@ -24,8 +24,10 @@ pub fn worked_examples()
     ensures ports_exchanged { matches (record (over 1 0 every_4) { source_port = 5004 }) (datagram 5004) ≡ false }
 
     // 10.0.0.16 under 255.255.255.240, and a mask with a gap.
-    ensures partial_byte_of_a_mask { matches (to_4 (10 ∷ 0 ∷ 0 ∷ 17 ∷ []) (255 ∷ 255 ∷ 255 ∷ 240 ∷ [])) (datagram_to (10 ∷ 0 ∷ 0 ∷ 31 ∷ []) (Some (1, 2))) ≡ true }
-    ensures past_a_partial_byte { matches (to_4 (10 ∷ 0 ∷ 0 ∷ 17 ∷ []) (255 ∷ 255 ∷ 255 ∷ 240 ∷ [])) (datagram_to (10 ∷ 0 ∷ 0 ∷ 32 ∷ []) (Some (1, 2))) ≡ false }
+    ensures partial_byte_of_a_mask { matches (to_4 (10 ∷ 0 ∷ 0 ∷ 17 ∷ []) (255 ∷ 255 ∷ 255 ∷ 240 ∷ [])) (datagram_to (10 ∷ 0 ∷ 0 ∷ 31 ∷ []) (Some
+        (1, 2))) ≡ true }
+    ensures past_a_partial_byte { matches (to_4 (10 ∷ 0 ∷ 0 ∷ 17 ∷ []) (255 ∷ 255 ∷ 255 ∷ 240 ∷ [])) (datagram_to (10 ∷ 0 ∷ 0 ∷ 32 ∷ []) (Some
+        (1, 2))) ≡ false }
     ensures mask_with_a_gap { matches (to_4 (10 ∷ 9 ∷ 0 ∷ 2 ∷ []) (255 ∷ 0 ∷ 255 ∷ 255 ∷ [])) (datagram 5004) ≡ true }
     ensures whole_mask { matches (to_4 (10 ∷ 0 ∷ 0 ∷ 3 ∷ []) (255 ∷ 255 ∷ 255 ∷ 255 ∷ [])) (datagram 5004) ≡ false }
 

@@ -95,7 +95,7 @@ impl Classify for Classifier {
 
     ghost dressed = { dressed_by };
 
-    /// Takes no memory. Of the filters that fix a port only those of the flow's ports are asked, found at one look or by bisection.
+    /// Does not allocate. Of the filters that fix a port only those of the flow's ports are asked, found at one look or by bisection.
     /// Where there are no filters, of the flow the type of service or traffic class alone is read.
     fn class(&self, frame: &[u8]) -> Placed {
         match self.filters.only_class() {
@@ -104,7 +104,7 @@ impl Classify for Classifier {
         }
     }
 
-    /// Clears the code point in a class that asks for it, and marks the packet where its queue did. Takes no memory; constant time.
+    /// Clears the code point in a class that asks for it, and marks the packet where its queue did. Does not allocate; constant time.
     #[inline(always)]
     fn dress(&self, class: u32, marked: bool, frame: &mut [u8]) {
         let handling = handling_at(self.handlings.as_slice(), class);

@@ -2,7 +2,7 @@
 use Rattle.std.specs.Prelude.{◌≡◌, ℕ, List, [], ◌++◌}
 use Rattle.std.proofs.Common.{◌∙◌, ap, sym, subst, append_assoc}
 use Rattle.std.proofs.lemmas.List.{append-nil}
-use Rattle.play_base.specs.View.{View, Any, Keeps, Wrote}
+use Rattle.play_base.specs.View.{View, Everything, Keeps, Wrote}
 use Rattle.play_base.specs.Holds.{HoldsAt, Apart}
 use Rattle.play_base.proofs.HoldsLaws.{holds_wrote, holds_beside, holds_kept}
 use Rattle.gathered_writes.specs.Gathered.{Grew, Stopped, HasText, HoldsFront}
@@ -33,7 +33,7 @@ text_beside v w file other pending text ys h apart x = record {
 }
 
 -- so does a call that leaves every name
-pub text_kept : (F : ℕ → Type 0) (v w : View) (file : ℕ) (pending text : List ℕ) → HasText v file pending text → Keeps Any F v w → HasText w file pending text
+pub text_kept : (F : ℕ → Type 0) (v w : View) (file : ℕ) (pending text : List ℕ) → HasText v file pending text → Keeps Everything F v w → HasText w file pending text
 text_kept F v w file pending text h k = record { written = h.written; holds = holds_kept F v w file h.written h.holds k; split = h.split }
 
 pub front_beside : (v w : View) (file other : ℕ) (text ys : List ℕ) → HoldsFront v file text → Apart v file other → Wrote v w other ys → HoldsFront w file text

@@ -71,7 +71,7 @@ fn bound_rows<F: Files>(files: &mut F, file: u32, rows: &mut Rows) -> Result<(),
     ensures stopped { OnErr result (Stopped (F.view files.old) (F.view files.new) file rows.old []) }
     ensures failed { IsErrOf result Trouble.Failed → WriteFault (F.view files.old) (F.view files.new) file }
 {
-    let Ok(()) = rows.settle() else {
+    let Ok(()) = rows.flush_pending() else {
         return Err(Trouble::NoMemory);
     };
     if rows.most() <= ROWS_BOUND {

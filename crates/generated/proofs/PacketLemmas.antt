@@ -5,7 +5,7 @@ use Rattle.std.proofs.lemmas.List.Elements.{All-nil, All-cons, All-append}
 use Rattle.std.specs.Prelude.{max, All, IsSome}
 use Rattle.capture_model.specs.Capture.{Record, longest, most_records, most_bytes, IsCapture}
 use Rattle.capture_model.specs.Header.{capture_header}
-use Rattle.capture_model.specs.Written.{record_text, record_texts, written, IsWithin, AreWithin}
+use Rattle.capture_model.specs.Written.{record_text, record_texts, written, FitsCapture, AreWithin}
 use Rattle.pcap_files.proofs.WritingLemmas.{reads_written}
 use Rattle.generated.specs.Packets.{first_word, second_word, moment, len_by, frame_by, packet, packets, generated_capture, most_packets}
 use Rattle.generated.specs.Generating.{Continues, WroteFrontOf, WroteMore, StoppedIn}
@@ -22,7 +22,7 @@ moment_early seed (suc made) =
 captured_length : (a b : ℕ) → length (frame_by a b) ≡ 42
 captured_length a b = refl
 
-packet_within : (seed made : ℕ) → made < most_packets → IsWithin (packet seed made)
+packet_within : (seed made : ℕ) → made < most_packets → FitsCapture (packet seed made)
 packet_within seed made h =
     let early = moment_early seed (suc made) in
     let r : second_word seed made % 1437 < 1437 = omega arith in
@@ -53,11 +53,11 @@ capture_length seed (suc made) =
     ap length (sym (capture_more seed made)) ∙ length-append (generated_capture seed made) (record_text (packet seed made))
     ∙ omega (arith, capture_length seed made)
 
-all_within : (seed count : ℕ) → count ≤ most_packets → All IsWithin (packets seed count)
-all_within seed zero h = All-nil IsWithin
+all_within : (seed count : ℕ) → count ≤ most_packets → All FitsCapture (packets seed count)
+all_within seed zero h = All-nil FitsCapture
 all_within seed (suc made) h =
-    All-append IsWithin (packets seed made) (packet seed made ∷ []) (all_within seed made (omega (arith, h)))
-    (All-cons IsWithin (packet seed made) [] (packet_within seed made (omega (arith, h))) (All-nil IsWithin))
+    All-append FitsCapture (packets seed made) (packet seed made ∷ []) (all_within seed made (omega (arith, h)))
+    (All-cons FitsCapture (packet seed made) [] (packet_within seed made (omega (arith, h))) (All-nil FitsCapture))
 
 pub generated_reads : (seed count : ℕ) → count ≤ most_packets → IsCapture (generated_capture seed count) (packets seed count)
 generated_reads seed count h = reads_written (packets seed count) (record {

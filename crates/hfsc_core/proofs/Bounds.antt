@@ -21,11 +21,11 @@ use Rattle.hfsc_policy.proofs.Few.{are_few}
 use Rattle.hfsc_policy.proofs.Offers.{leaf_below}
 use Rattle.hfsc_policy.proofs.Paths.{IsSender}
 use Rattle.hfsc_policy.proofs.Small.{total_within}
-use Rattle.class_rows.specs.Rows.{Rowed}
+use Rattle.class_rows.specs.Rows.{ClassQueuesView}
 use Rattle.hfsc_core.specs.declared.chooser.Chooser.{Chooser}
 use Rattle.hfsc_core.specs.declared.chooser.Chosen.{Chosen}
 use Rattle.hfsc_core.specs.declared.chooser.Chosen.TheVariants.{Real, Shared, Later, Nothing}
-use Rattle.hfsc_core.specs.Chooser.{Stands, classes_of, woken_at}
+use Rattle.hfsc_core.specs.Chooser.{Represents, classes_of, woken_at}
 use Rattle.hfsc_core.specs.Hfsc.{MayAsk}
 use Rattle.hfsc_core.proofs.Choosing.{ChosenIs, IsLater}
 
@@ -51,7 +51,7 @@ within_at : (o : Option Curve) (os : List Opening) (woken t u : ℕ) → ((s : C
 within_at None os woken t u k b l m = refl
 within_at (Some s) os woken t u k b l m = true_reaches s os t u (limit_reaches s os woken t u (k s refl) b l m)
 
-open_at : (x : Chooser) (h : HfscHistory) (t : ℕ) (up : List ℕ) → Stands x h → woken_at x + long ≤ t → list_all (is_within (classes_of x) h t) up ≡ true
+open_at : (x : Chooser) (h : HfscHistory) (t : ℕ) (up : List ℕ) → Represents x h → woken_at x + long ≤ t → list_all (is_within (classes_of x) h t) up ≡ true
 open_at x h t [] s l = refl
 open_at x h t (c ∷ up) s l =
     true_and (is_within (classes_of x) h t c) (list_all (is_within (classes_of x) h t) up)
@@ -63,7 +63,7 @@ or_right : (a b : Bool) → b ≡ true → (a || b) ≡ true
 or_right true b e = refl
 or_right false b e = e
 
-may_late : (x : Chooser) (h : HfscHistory) (t u c : ℕ) → Stands x h → woken_at x + long ≤ t → IsSender (classes_of x) h u c → IsSender (classes_of x) h t c
+may_late : (x : Chooser) (h : HfscHistory) (t u c : ℕ) → Represents x h → woken_at x + long ≤ t → IsSender (classes_of x) h u c → IsSender (classes_of x) h t c
 may_late x h t u c s l y = record {
   is_leaf = y.is_leaf;
   waits = y.waits;
@@ -72,14 +72,14 @@ may_late x h t u c s l y = record {
       (true_and (is_waiting (leaf h c).waiting) (is_open (classes_of x) h t c) y.waits (open_at x h t (path (classes_of x) c) s l)));
 }
 
-pub wait_fits : (x : Chooser) (h : HfscHistory) (now t : ℕ) → Stands x h → woken_at x ≤ now → now < 2 ^ 63 → IsLater (classes_of x) h now t → t < 2 ^ 64
+pub wait_fits : (x : Chooser) (h : HfscHistory) (now t : ℕ) → Represents x h → woken_at x ≤ now → now < 2 ^ 63 → IsLater (classes_of x) h now t → t < 2 ^ 64
 wait_fits x h now t s l early i = go (cases_lt (now + long) t)
   where
     go : (now + long < t) ⊎ (t ≤ now + long) → t < 2 ^ 64
     go (inl m) = absurd (i.none (now + long) (omega arith) m i.sender (may_late x h (now + long) t i.sender s (omega (arith, l)) i.may))
     go (inr m) = omega (arith, m, early)
 
-pub may_ask : {Q : Type 0} (d : Rowed Q) (x : Chooser) (h : HfscHistory) (now : ℕ) (k : Chosen) → d.first ≡ 0 → length d.queues ≡ length (classes_of x) → Stands x h
+pub may_ask : {Q : Type 0} (d : ClassQueuesView Q) (x : Chooser) (h : HfscHistory) (now : ℕ) (k : Chosen) → d.first ≡ 0 → length d.queues ≡ length (classes_of x) → Represents x h
     → woken_at x ≤ now → now < 2 ^ 63 → ChosenIs (classes_of x) h now k → MayAsk d k
 may_ask d x h now (Real c) f e s l early i = let low = leaf_below (classes_of x) c i.1.is_leaf in (omega (arith, f), omega (arith, low, f, e))
 may_ask d x h now (Shared c) f e s l early i = let low = leaf_below (classes_of x) c i.1.is_leaf in (omega (arith, f), omega (arith, low, f, e))

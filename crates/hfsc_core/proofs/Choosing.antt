@@ -24,7 +24,7 @@ use Rattle.hfsc_share.proofs.Picks.{pick_is, soonest_is}
 use Rattle.hfsc_core.specs.declared.chooser.Chooser.{Chooser}
 use Rattle.hfsc_core.specs.declared.chooser.Chosen.{Chosen}
 use Rattle.hfsc_core.specs.declared.chooser.Chosen.TheVariants.{Real, Shared, Later, Nothing}
-use Rattle.hfsc_core.specs.Chooser.{Stands, chosen_now, classes_of, woken_at, real_or, shared_or, till}
+use Rattle.hfsc_core.specs.Chooser.{Represents, chosen_now, classes_of, woken_at, real_or, shared_or, till}
 use Rattle.hfsc_core.proofs.Keeping.{later_open}
 
 -- the least later moment at which a leaf may send
@@ -46,7 +46,7 @@ ChosenIs cs h now Nothing = IsIdle cs h
 come_none : (o : Option ℕ) (t : ℕ) → o ≡ None → has_come o t ≡ false
 come_none o t e = ap (λ (p : Option ℕ). has_come p t) e
 
-module _ (x : Chooser) (h : HfscHistory) (s : Stands x h) where
+module _ (x : Chooser) (h : HfscHistory) (s : Represents x h) where
   by : (now : ℕ) → woken_at x ≤ now → AreOpenBy h now
   by now l c = later_open (leaf h c).openings (woken_at x) now l (s.opened c)
 

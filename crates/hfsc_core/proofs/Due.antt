@@ -5,7 +5,7 @@ use Rattle.altq_model.specs.declared.Rule.{Rule}
 use Rattle.altq_model.specs.declared.Rule.TheVariants.{RealTime, Share}
 use Rattle.leaf_queue.specs.declared.node.Entry.{Entry}
 use Rattle.discipline.specs.declared.pick.Pick.TheVariants.{Empty}
-use Rattle.altq_model.specs.History.{Arrival, Happened, bare, waiting}
+use Rattle.altq_model.specs.History.{Arrival, LabelledEvent, unlabelled, waiting}
 use Rattle.discipline.specs.Laws.{IsLeast, NamesHead, Sends, Shows, Waits, seen, seen_of}
 use Rattle.hfsc_policy.specs.Events.{hfsc_history}
 use Rattle.hfsc_policy.proofs.Histories.{waits_head}
@@ -145,5 +145,5 @@ seen_some [] [] b e f = absurd cc
 seen_some [] (w ∷ ws) b e f = absurd cc
 seen_some (x ∷ xs) ws b e f = (x, refl)
 
-pub shown_head : (c : ℕ) (xs : List Entry) (h : List Happened) → Shows c xs h → is_waiting (leaf (hfsc_history (bare h)) c).waiting ≡ true → (x : Entry) × (slice_get xs 0 ≡ Some x)
-shown_head c xs h s w = let y = waits_head c (bare h) w in seen_some xs (waiting c (bare h)) y.packet s.packets y.front
+pub shown_head : (c : ℕ) (xs : List Entry) (h : List LabelledEvent) → Shows c xs h → is_waiting (leaf (hfsc_history (unlabelled h)) c).waiting ≡ true → (x : Entry) × (slice_get xs 0 ≡ Some x)
+shown_head c xs h s w = let y = waits_head c (unlabelled h) w in seen_some xs (waiting c (unlabelled h)) y.packet s.packets y.front

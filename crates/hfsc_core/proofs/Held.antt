@@ -20,12 +20,12 @@ use Rattle.hfsc_eligible.specs.declared.Eligible.{Eligible}
 use Rattle.hfsc_eligible.specs.declared.slot.Slot.{Slot}
 use Rattle.hfsc_eligible.specs.Real.{last_in, RealStands}
 use Rattle.hfsc_eligible.specs.Slot.{SlotStands}
-use Rattle.hfsc_eligible.specs.Eligible.{StandsFor as HoldsReal, head_at, head_in, opening_at, opening_in}
+use Rattle.hfsc_eligible.specs.Eligible.{Represents as HoldsReal, head_at, head_in, opening_at, opening_in}
 use Rattle.hfsc_eligible.proofs.Lists.{no_slot}
 use Rattle.hfsc_groups.specs.declared.node.Node.{Node}
 use Rattle.hfsc_groups.specs.Node.{parent_in, active_in}
 use Rattle.hfsc_share.specs.declared.Shares.{Shares}
-use Rattle.hfsc_share.specs.Shares.{StandsFor as HoldsShare, parent_at, is_active_at}
+use Rattle.hfsc_share.specs.Shares.{Represents as HoldsShare, parent_at, is_active_at}
 
 -- no class has a leaf as its parent
 beyond : (cs : List HfscClass) (c : ℕ) → length cs ≤ c → class_of cs c ≡ no_class

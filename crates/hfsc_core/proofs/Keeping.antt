@@ -14,11 +14,11 @@ use Rattle.hfsc_policy.specs.Classes.{IsClassTree}
 use Rattle.hfsc_policy.specs.Heads.{AreHeads, kept_in}
 use Rattle.hfsc_policy.proofs.Few.{are_few, head_sized}
 use Rattle.hfsc_policy.proofs.Small.{counts_small, totals_small, times_small}
-use Rattle.hfsc_eligible.specs.Eligible.{StandsFor as HoldsReal}
+use Rattle.hfsc_eligible.specs.Eligible.{Represents as HoldsReal}
 use Rattle.hfsc_groups.specs.Classes.{AreSmall}
-use Rattle.hfsc_share.specs.Shares.{StandsFor as HoldsShare}
+use Rattle.hfsc_share.specs.Shares.{Represents as HoldsShare}
 use Rattle.hfsc_core.specs.declared.chooser.Chooser.{Chooser}
-use Rattle.hfsc_core.specs.Chooser.{MayKeep, MayLeave, Stands, classes_of, woken_at}
+use Rattle.hfsc_core.specs.Chooser.{MayKeep, MayLeave, Represents, classes_of, woken_at}
 
 -- no number passes what is kept of it
 pub small : (cs : List HfscClass) (h : HfscHistory) → IsClassTree cs → AreHeads h → kept_in h ≤ 4000000 → AreSmall cs h
@@ -89,12 +89,12 @@ inside_sent cs h class len start real f c n = go (class == c)
 
 -- a packet that is kept
 pub kept_first : (x y : Chooser) (h : HfscHistory) (class at len : ℕ) (empty : Bool) → MayKeep x h class at len empty → classes_of y ≡ classes_of x → woken_at y ≡ at
-    → HoldsReal y.eligible (reals (classes_of x)) (Enqueued class at len ∷ h) → HoldsShare y.shares (classes_of x) (Enqueued class at len ∷ h) → Stands y (Enqueued class at len ∷ h)
+    → HoldsReal y.eligible (reals (classes_of x)) (Enqueued class at len ∷ h) → HoldsShare y.shares (classes_of x) (Enqueued class at len ∷ h) → Represents y (Enqueued class at len ∷ h)
 kept_first x y h class at len empty m same woken r s =
     let t = m.stands in
     let few = m.few in
     subst (λ (cs : List HfscClass). (IsClassTree cs → HoldsReal y.eligible (reals cs) (Enqueued class at len ∷ h) → HoldsShare y.shares cs (Enqueued class at len ∷ h)
-    → ((c : ℕ) → is_leaf cs c ≡ false → (leaf (Enqueued class at len ∷ h) c).waiting ≡ []) → Stands y (Enqueued class at len ∷ h))) same
+    → ((c : ℕ) → is_leaf cs c ≡ false → (leaf (Enqueued class at len ∷ h) c).waiting ≡ []) → Represents y (Enqueued class at len ∷ h))) same
     (λ tree real share inside. record {
       tree = tree;
       real = real;
@@ -106,7 +106,7 @@ kept_first x y h class at len empty m same woken r s =
     }) t.tree r s (inside_kept (classes_of x) h class at len m.of_leaf t.inside)
 
 pub kept_more : (x : Chooser) (h : HfscHistory) (class at len : ℕ) (empty : Bool) → MayKeep x h class at len empty → empty ≡ false
-    → HoldsReal x.eligible (reals (classes_of x)) (Enqueued class at len ∷ h) → HoldsShare x.shares (classes_of x) (Enqueued class at len ∷ h) → Stands x (Enqueued class at len ∷ h)
+    → HoldsReal x.eligible (reals (classes_of x)) (Enqueued class at len ∷ h) → HoldsShare x.shares (classes_of x) (Enqueued class at len ∷ h) → Represents x (Enqueued class at len ∷ h)
 kept_more x h class at len empty m e r s =
     let t = m.stands in
     let few = m.few in
@@ -155,11 +155,11 @@ sent_count x h class len start real head m = count_most (Sent class len real sta
 
 pub sent_stands : (x y : Chooser) (h : HfscHistory) (class len start : ℕ) (real : Bool) (head : Option ℕ) → MayLeave x h class len head → classes_of y ≡ classes_of x
     → woken_at y ≡ woken_at x → HoldsReal y.eligible (reals (classes_of x)) (Sent class len real start ∷ h) → HoldsShare y.shares (classes_of x) (Sent class len real start ∷ h)
-    → Stands y (Sent class len real start ∷ h)
+    → Represents y (Sent class len real start ∷ h)
 sent_stands x y h class len start real head m same woken r s =
     let t = m.stands in
     subst (λ (cs : List HfscClass). (IsClassTree cs → HoldsReal y.eligible (reals cs) (Sent class len real start ∷ h) → HoldsShare y.shares cs (Sent class len real start ∷ h)
-    → ((c : ℕ) → is_leaf cs c ≡ false → (leaf (Sent class len real start ∷ h) c).waiting ≡ []) → Stands y (Sent class len real start ∷ h))) same
+    → ((c : ℕ) → is_leaf cs c ≡ false → (leaf (Sent class len real start ∷ h) c).waiting ≡ []) → Represents y (Sent class len real start ∷ h))) same
     (λ tree rs share inside. record {
       tree = tree;
       real = rs;
@@ -197,9 +197,9 @@ sent_next_long x h class len n head m e =
     (head_sized class n k (m.front, m.stands.packets) front).least
 
 -- classes without a packet
-pub new_stands : (x : Chooser) (cs : List HfscClass) → IsClassTree cs → classes_of x ≡ cs → HoldsReal x.eligible (reals cs) [] → HoldsShare x.shares cs [] → Stands x []
+pub new_stands : (x : Chooser) (cs : List HfscClass) → IsClassTree cs → classes_of x ≡ cs → HoldsReal x.eligible (reals cs) [] → HoldsShare x.shares cs [] → Represents x []
 new_stands x cs k same r s =
-    subst (λ (ks : List HfscClass). (IsClassTree ks → HoldsReal x.eligible (reals ks) [] → HoldsShare x.shares ks [] → Stands x [])) same
+    subst (λ (ks : List HfscClass). (IsClassTree ks → HoldsReal x.eligible (reals ks) [] → HoldsShare x.shares ks [] → Represents x [])) same
     (λ tree real share. record {
       tree = tree;
       real = real;

@@ -5,7 +5,7 @@ use Rattle.std.specs.Option.{option_map}
 use Rattle.ranking.proofs.Ranks.{same_test}
 use Rattle.altq_model.specs.declared.Rule.{Rule}
 use Rattle.altq_model.specs.declared.Rule.TheVariants.{RealTime, Share}
-use Rattle.altq_model.specs.History.{Happened, bare}
+use Rattle.altq_model.specs.History.{LabelledEvent, unlabelled}
 use Rattle.altq_model.specs.Play.{Choice, Policy}
 use Rattle.play_base.specs.declared.packet.Ticket.{Ticket}
 use Rattle.link_clock.specs.Clock.{Clock}
@@ -15,7 +15,7 @@ use Rattle.discipline.specs.declared.pick.Pick.TheVariants.{Send}
 use Rattle.discipline.specs.declared.pick.Sending.{Sending}
 use Rattle.discipline.specs.Laws.{after_sent, sent_of}
 use Rattle.discipline.specs.Moments.{IsChoice, IsOrderly, WasDue}
-use Rattle.class_rows.specs.Rows.{Rowed, SameRow, Told, answering, list_in}
+use Rattle.class_rows.specs.Rows.{ClassQueuesView, SameRow, RowRepresents, answering, list_in}
 use Rattle.hfsc_model.specs.declared.HfscClass.{HfscClass}
 use Rattle.hfsc_model.specs.Event.{HfscHistory}
 use Rattle.hfsc_model.specs.Event.{Sent as HfscSent}
@@ -28,8 +28,8 @@ use Rattle.hfsc_policy.proofs.Paths.{IsSender}
 use Rattle.hfsc_core.specs.declared.chooser.Chooser.{Chooser}
 use Rattle.hfsc_core.specs.declared.chooser.Chosen.{Chosen}
 use Rattle.hfsc_core.specs.declared.chooser.Chosen.TheVariants.{Real, Shared, Later, Nothing}
-use Rattle.hfsc_core.specs.Chooser.{MayLeave, Stands, chosen_now, classes_of, woken_at}
-use Rattle.hfsc_core.specs.Hfsc.{Held, HfscStands, Known, due_of, lens, lens_of, pick_of, policy_of, send_head}
+use Rattle.hfsc_core.specs.Chooser.{MayLeave, Represents, chosen_now, classes_of, woken_at}
+use Rattle.hfsc_core.specs.Hfsc.{HfscView, HfscStands, Known, due_of, lens, lens_of, pick_of, policy_of, send_head}
 use Rattle.class_rows.proofs.FrontLemmas.{front_shown}
 use Rattle.hfsc_core.proofs.Choosing.{ChosenIs, chosen_is}
 use Rattle.hfsc_core.proofs.Policy.{now_first}
@@ -98,34 +98,34 @@ may_leave x lists new kept now class len r head h k s e f = record {
 }
 
 module _ {Q : Type 0} (stands : Q → List QueueEvent → Type 0) (says : Q → Saying) (most : Q → ℕ) where
-  pub sent_of_due : (d : Held Q) (h : List Happened) (s : Sending) → HfscStands stands says d h → woken_at d.chooser ≤ s.start
-      → due_of d s.start ≡ Send s.ticket s.class s.len s.rule → IsSent (classes_of d.chooser) (hfsc_history (bare h)) (list_in d.rows s.class) s.start s.class s.len s.rule
+  pub sent_of_due : (d : HfscView Q) (h : List LabelledEvent) (s : Sending) → HfscStands stands says d h → woken_at d.chooser ≤ s.start
+      → due_of d s.start ≡ Send s.ticket s.class s.len s.rule → IsSent (classes_of d.chooser) (hfsc_history (unlabelled h)) (list_in d.rows s.class) s.start s.class s.len s.rule
   sent_of_due d h s k later due =
-      sent_is (classes_of d.chooser) (hfsc_history (bare h)) (list_in d.rows) s.start s.class s.len s.rule s.ticket (chosen_now d.chooser s.start)
-      (chosen_is d.chooser (hfsc_history (bare h)) k.chooser s.start later) due
+      sent_is (classes_of d.chooser) (hfsc_history (unlabelled h)) (list_in d.rows) s.start s.class s.len s.rule s.ticket (chosen_now d.chooser s.start)
+      (chosen_is d.chooser (hfsc_history (unlabelled h)) k.chooser s.start later) due
 
-  pub sent_stands : (d : Held Q) (y : Chooser) (rows : Rowed Q) (h : List Happened) (clock : Clock) (s : Sending) → SameRow most says d.rows rows → HfscStands stands says d h
-      → Told stands rows (sent_of s ∷ h) → IsChoice s.start clock (bare h)
-      → IsSent (classes_of d.chooser) (hfsc_history (bare h)) (list_in d.rows s.class) s.start s.class s.len s.rule
-      → classes_of y ≡ classes_of d.chooser → woken_at y ≡ woken_at d.chooser → Stands y (HfscSent s.class s.len (is_real s.rule) s.start ∷ hfsc_history (bare h))
+  pub sent_stands : (d : HfscView Q) (y : Chooser) (rows : ClassQueuesView Q) (h : List LabelledEvent) (clock : Clock) (s : Sending) → SameRow most says d.rows rows → HfscStands stands says d h
+      → RowRepresents stands rows (sent_of s ∷ h) → IsChoice s.start clock (unlabelled h)
+      → IsSent (classes_of d.chooser) (hfsc_history (unlabelled h)) (list_in d.rows s.class) s.start s.class s.len s.rule
+      → classes_of y ≡ classes_of d.chooser → woken_at y ≡ woken_at d.chooser → Represents y (HfscSent s.class s.len (is_real s.rule) s.start ∷ hfsc_history (unlabelled h))
       → HfscStands stands says (record { chooser = y; rows = rows; kept = d.kept }) (sent_of s ∷ h)
-  sent_stands d y rows h clock s same k told o x classes woken t =
-      let n : Held Q = record { chooser = y; rows = rows; kept = d.kept } in
-      let f = front_shown s.class (list_in d.rows s.class) h x.front (k.told.shown s.class) x.here in
-      let was : WasDue (policy_of says d) (bare h) (record { class = s.class; len = s.len; rule = s.rule; start = s.start; end = s.end }) = record {
+  sent_stands d y rows h clock s same k recorded o x classes woken t =
+      let n : HfscView Q = record { chooser = y; rows = rows; kept = d.kept } in
+      let f = front_shown s.class (list_in d.rows s.class) h x.front (k.recorded.shown s.class) x.here in
+      let was : WasDue (policy_of says d) (unlabelled h) (record { class = s.class; len = s.len; rule = s.rule; start = s.start; end = s.end }) = record {
         packet = f.packet;
         front = f.front;
         len = sym x.long ∙ f.len;
         arrived = o.arrived;
         started = o.started;
-        first = now_first (classes_of d.chooser) (answering says d.rows) (bare h) k.chooser.tree s.start s.class x.sender;
+        first = now_first (classes_of d.chooser) (answering says d.rows) (unlabelled h) k.chooser.tree s.start s.class x.sender;
         pick = x.pick;
       } in
       record {
-        told = told;
+        recorded = recorded;
         chooser = t;
         kept = k.kept;
         counted = k.counted;
         woken = λ u l. let by = k.woken u l in omega (arith, by, woken);
-        orderly = subst (λ (p : Policy). IsOrderly p (bare (sent_of s ∷ h))) (sym (same_policy most says d n same classes)) (was, k.orderly);
+        orderly = subst (λ (p : Policy). IsOrderly p (unlabelled (sent_of s ∷ h))) (sym (same_policy most says d n same classes)) (was, k.orderly);
       }

@@ -7,3 +7,4 @@ pub mod Policy
 pub mod Standing
 pub mod Leaving
 pub mod Building
+pub mod AtOnce

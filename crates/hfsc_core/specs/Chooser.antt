@@ -10,9 +10,9 @@ use Rattle.hfsc_policy.specs.Classes.{IsClassTree}
 use Rattle.hfsc_policy.specs.Heads.{AreHeads, IsSized, kept_in}
 use Rattle.hfsc_policy.specs.Policy.{earlier_of}
 use Rattle.hfsc_eligible.specs.Real.{CanCarry}
-use Rattle.hfsc_eligible.specs.Eligible.{StandsFor as RealStands, pick_now as real_pick_now, soonest_now as real_soonest_now}
+use Rattle.hfsc_eligible.specs.Eligible.{Represents as RealStands, pick_now as real_pick_now, soonest_now as real_soonest_now}
 use Rattle.hfsc_groups.specs.Classes.{AreClasses}
-use Rattle.hfsc_share.specs.Shares.{StandsFor as ShareStands, last_wake, pick_now as share_pick_now, soonest_now as share_soonest_now}
+use Rattle.hfsc_share.specs.Shares.{Represents as ShareStands, last_wake, pick_now as share_pick_now, soonest_now as share_soonest_now}
 use Rattle.hfsc_core.specs.declared.chooser.Chooser.{Chooser}
 use Rattle.hfsc_core.specs.declared.chooser.Chosen.{Chosen}
 use Rattle.hfsc_core.specs.declared.chooser.Chosen.TheVariants.{Real, Shared, Later, Nothing}
@@ -31,7 +31,7 @@ abbrev pub woken_at : Chooser → ℕ
 woken_at x = last_wake x.shares
 
 -- both choices stand for a history, in which packets came to leaves alone
-pub record Stands (x : Chooser) (h : HfscHistory) : Type 0 where
+pub record Represents (x : Chooser) (h : HfscHistory) : Type 0 where
   pub tree : IsClassTree (classes_of x)
   pub real : RealStands x.eligible (reals (classes_of x)) h
   pub share : ShareStands x.shares (classes_of x) h
@@ -42,7 +42,7 @@ pub record Stands (x : Chooser) (h : HfscHistory) : Type 0 where
 
 -- a packet may be kept in a leaf, which is empty or not
 pub record MayKeep (x : Chooser) (h : HfscHistory) (class at len : ℕ) (empty : Bool) : Type 0 where
-  pub stands : Stands x h
+  pub stands : Represents x h
   pub of_leaf : is_leaf (classes_of x) class ≡ true
   pub waits : is_waiting (leaf h class).waiting ≡ not empty
   pub sized : IsSized len
@@ -51,7 +51,7 @@ pub record MayKeep (x : Chooser) (h : HfscHistory) (class at len : ℕ) (empty :
 
 -- the head of a leaf may be sent, behind which another is the head
 pub record MayLeave (x : Chooser) (h : HfscHistory) (class len : ℕ) (head : Option ℕ) : Type 0 where
-  pub stands : Stands x h
+  pub stands : Represents x h
   pub front : IsHead (leaf h class).waiting len
   pub next : head ≡ head_len (drop 1 (leaf h class).waiting)
 
@@ -70,4 +70,5 @@ real_or (Some c) x = Real c
 -- what is chosen at a moment, by what is held
 abbrev pub chosen_now : Chooser → ℕ → Chosen
 chosen_now x now =
-    real_or (real_pick_now x.eligible now) (shared_or (share_pick_now x.shares now) (till (earlier_of (real_soonest_now x.eligible) (share_soonest_now x.shares))))
+    real_or (real_pick_now x.eligible now) (shared_or (share_pick_now x.shares now) (till (earlier_of (real_soonest_now x.eligible)
+    (share_soonest_now x.shares))))

@@ -1,2 +1,3 @@
 pub mod Chooser
 pub mod Hfsc
+pub mod Waiting

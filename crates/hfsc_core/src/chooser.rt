@@ -5,7 +5,7 @@ ghost use Rattle.hfsc_model.specs.Leaf.{leaf, is_waiting};
 ghost use Rattle.hfsc_model.specs.Tree.{reals};
 ghost use Rattle.hfsc_policy.specs.Heads.{IsSized, kept_in};
 ghost use Rattle.hfsc_policy.specs.Policy.{earlier_of};
-ghost use Rattle.hfsc_core.specs.Chooser.{MayBuild, MayKeep, MayLeave, Stands, chosen_now, classes_of, woken_at};
+ghost use Rattle.hfsc_core.specs.Chooser.{MayBuild, MayKeep, MayLeave, Represents, chosen_now, classes_of, woken_at};
 
 use hfsc_eligible::{Eligible, waiting_classes_open_once};
 use hfsc_model::HfscClass;
@@ -40,7 +40,7 @@ impl Chooser {
     pub fn build(alloc: Global, classes: &[HfscClass]) -> Result<Chooser, NoMemory>
         requires count { length classes.now ≤ 256 }
         requires classes { MayBuild classes.now }
-        ensures stands { IfOk result (λ x. Stands x []) }
+        ensures stands { IfOk result (λ x. Represents x []) }
         ensures classes { IfOk result (λ x. classes_of x ≡ classes.now) }
         ensures woken { IfOk result (λ x. woken_at x ≡ 0) }
     {
@@ -59,7 +59,7 @@ impl Chooser {
     #[inline(always)]
     pub fn kept(&mut self, class: u32, at: u64, len: u32, empty: bool)
         requires { (h : HfscHistory) × MayKeep self.old h class at len empty }
-        ensures stands { (h : HfscHistory) → MayKeep self.old h class at len empty → Stands self.new (Enqueued class at len ∷ h) }
+        ensures stands { (h : HfscHistory) → MayKeep self.old h class at len empty → Represents self.new (Enqueued class at len ∷ h) }
         ensures classes { classes_of self.new ≡ classes_of self.old }
         ensures woken { woken_at self.new ≤ at }
     {
@@ -76,7 +76,7 @@ impl Chooser {
     #[inline(always)]
     pub fn sent(&mut self, class: u32, len: u32, real: bool, head: Option<u32>)
         requires { (h : HfscHistory) × MayLeave self.old h class len head }
-        ensures stands { (h : HfscHistory) (start : ℕ) → MayLeave self.old h class len head → Stands self.new (Sent class len real start ∷ h) }
+        ensures stands { (h : HfscHistory) (start : ℕ) → MayLeave self.old h class len head → Represents self.new (Sent class len real start ∷ h) }
         ensures classes { classes_of self.new ≡ classes_of self.old }
         ensures woken { woken_at self.new ≡ woken_at self.old }
     {

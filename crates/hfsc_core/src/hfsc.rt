@@ -1,18 +1,18 @@
 //! The discipline.
 ghost use Rattle.std.specs.Prelude.{◌≡◌, ◌≤◌, ◌<◌, ◌+◌, [], ℕ, All, IfOk, length, map, slice_get};
 ghost use Rattle.std.specs.Option.{option_map};
-ghost use Rattle.class_rows.specs.Rows.{IsNew, limit_at, limits_of, list_in};
+ghost use Rattle.class_rows.specs.Rows.{IsNewQueue, limit_at, limits_of, list_in};
 ghost use Rattle.leaf_queue.specs.Queue.{by_queues};
 ghost use Rattle.hfsc_model.specs.Tree.{is_leaf, numbers};
 ghost use Rattle.hfsc_policy.specs.Events.{is_real};
 ghost use Rattle.hfsc_policy.specs.Policy.{hfsc_policy};
 ghost use Rattle.hfsc_core.specs.Chooser.{MayBuild};
-ghost use Rattle.hfsc_core.specs.Hfsc.{Held, HfscStands, IsHfsc, MayAsk, due_of, pick_of, policy_of, send_head};
+ghost use Rattle.hfsc_core.specs.Hfsc.{HfscView, HfscStands, IsHfsc, MayAsk, due_of, pick_of, policy_of, send_head};
 
 use crate::HfscClass;
 use crate::chooser::{Chooser, Chosen};
 use crate::leaves::leaves_of;
-use class_rows::Rows;
+use class_rows::ClassQueues;
 use discipline::{Discipline, Pick, Rule, Sending, Verdict};
 use leaf_queue::{Entry, QueueRule, Words};
 use link_clock::LinkClock;
@@ -24,12 +24,12 @@ use std::marker::Model;
 #[derive(Drop)]
 pub struct Hfsc<Q: QueueRule + Drop> {
     chooser: Chooser,
-    rows: Rows<Q>,
+    rows: ClassQueues<Q>,
     kept: u32,
 }
 
 impl<Q: QueueRule + Drop> Model for Hfsc<Q> {
-    ghost Value = { Held Q };
+    ghost Value = { HfscView Q };
 
     ghost view = { λ d. record { chooser = d.chooser; rows = d.rows; kept = d.kept } };
 
@@ -38,7 +38,7 @@ impl<Q: QueueRule + Drop> Model for Hfsc<Q> {
 
 // The head of a class's list is sent by a rule.
 #[inline(always)]
-fn head_by<Q: QueueRule + Drop>(rows: &Rows<Q>, class: u32, rule: Rule) -> Pick
+fn head_by<Q: QueueRule + Drop>(rows: &ClassQueues<Q>, class: u32, rule: Rule) -> Pick
     requires low { rows.now.first ≤ class }
     requires high { class < rows.now.first + length rows.now.queues }
     ensures { result ≡ send_head class rule (list_in rows.now class) }
@@ -56,7 +56,7 @@ fn head_by<Q: QueueRule + Drop>(rows: &Rows<Q>, class: u32, rule: Rule) -> Pick
 
 // What is due where this is chosen.
 #[inline(always)]
-fn pick_of<Q: QueueRule + Drop>(rows: &Rows<Q>, chosen: Chosen) -> Pick
+fn pick_of<Q: QueueRule + Drop>(rows: &ClassQueues<Q>, chosen: Chosen) -> Pick
     requires { MayAsk rows.now chosen }
     ensures { result ≡ pick_of (list_in rows.now) chosen }
 {
@@ -81,7 +81,7 @@ fn is_real(rule: Rule) -> bool
 }
 
 // The length of the head of a class's list.
-fn head_len<Q: QueueRule + Drop>(rows: &Rows<Q>, class: u32) -> Option<u32>
+fn head_len<Q: QueueRule + Drop>(rows: &ClassQueues<Q>, class: u32) -> Option<u32>
     requires low { rows.now.first ≤ class }
     requires high { class < rows.now.first + length rows.now.queues }
     ensures { result ≡ option_map (λ (x : Entry). x.len) (slice_get (list_in rows.now class) 0) }
@@ -101,15 +101,15 @@ impl<Q: QueueRule + Drop> Hfsc<Q> {
         requires count { length classes.now ≤ 256 }
         requires classes { MayBuild classes.now }
         requires one_each { length queues.items ≡ length classes.now }
-        requires queues { All (IsNew Q.stands Q.most) queues.items }
-        ensures empty { IfOk result (λ d. ⟦<Hfsc<Q> as Discipline>⟧.stands d []) }
-        ensures policy { IfOk result (λ d. ⟦<Hfsc<Q> as Discipline>⟧.policy d ≡ hfsc_policy classes.now (by_queues 0 (map Q.says queues.items))) }
-        ensures limits { IfOk result (λ d. ⟦<Hfsc<Q> as Discipline>⟧.limits d
+        requires queues { All (IsNewQueue Q.stands Q.most) queues.items }
+        ensures empty { IfOk result (λ d. (⟦<Hfsc<Q> as Discipline>⟧.view d).represents []) }
+        ensures policy { IfOk result (λ d. (⟦<Hfsc<Q> as Discipline>⟧.view d).policy ≡ hfsc_policy classes.now (by_queues 0 (map Q.says queues.items))) }
+        ensures limits { IfOk result (λ d. (⟦<Hfsc<Q> as Discipline>⟧.view d).limits
             ≡ limit_at 0 (limits_of Q.most queues.items (map (is_leaf classes.now) (numbers classes.now)))) }
     {
         let chooser = Chooser::build(alloc, classes)?;
         let holds = leaves_of(alloc, classes)?;
-        let rows = Rows::build(alloc, 0, queues, holds)?;
+        let rows = ClassQueues::build(alloc, 0, queues, holds)?;
         Ok(Hfsc {
             chooser,
             rows,
@@ -119,31 +119,26 @@ impl<Q: QueueRule + Drop> Hfsc<Q> {
 }
 
 impl<Q: QueueRule + Drop> Discipline for Hfsc<Q> {
-    ghost use Rattle.std.specs.Prelude.{None};
-    ghost use Rattle.altq_model.specs.History.{bare, offered};
+    ghost use Rattle.std.specs.Prelude.{[], None};
+    ghost use Rattle.altq_model.specs.History.{unlabelled, offered};
     ghost use Rattle.altq_model.specs.Link.{link};
     ghost use Rattle.class_rows.specs.Rows.{limit_in, list_in, answering};
     ghost use Rattle.class_rows.proofs.RowLemmas.{none_is_least};
     ghost use Rattle.hfsc_policy.proofs.Lawful.{distinct, lawful, steady};
     ghost use Rattle.hfsc_core.specs.Chooser.{classes_of, woken_at};
 
-    ghost lists = { λ d. list_in d.rows };
-
-    ghost limits = { λ d. limit_in Q.most d.rows };
-
-    ghost stands = { λ d h. HfscStands Q.stands Q.says d h };
-
-    ghost due = { λ d clock now. due_of d now };
-
-    ghost policy = { λ d. policy_of Q.says d };
-
-    ghost link_rate = { λ d. None };
-
-    ghost given = { λ d. d.kept };
-
-    ghost moment = { λ d. woken_at d.chooser };
-
-    ghost ended = { λ d. 0 };
+    ghost view = { λ d. record {
+      policy = policy_of Q.says d;
+      limits = limit_in Q.most d.rows;
+      link_rate = None;
+      fixed = [];
+      lists = list_in d.rows;
+      represents = λ h. HfscStands Q.stands Q.says d h;
+      due = λ clock now. due_of d now;
+      given = d.kept;
+      moment = woken_at d.chooser;
+      ended = 0;
+    } };
 
     fn room(&self) -> u32 {
         self.rows.room()
@@ -184,13 +179,13 @@ impl<Q: QueueRule + Drop> Discipline for Hfsc<Q> {
         self.chooser.sent(sending.class, sending.len, real, head);
     }
 
-    ghost shows = { λ d h s. s.told.shown };
+    ghost shows = { λ d h s. s.recorded.shown };
 
     ghost counts = { λ d h s. s.counted };
 
     ghost moments = { λ d h s t l b. s.woken t l };
 
-    ghost ends = { λ d h s r l. none_is_least (link r (bare h)).free };
+    ghost ends = { λ d h s r l. none_is_least (link r (unlabelled h)).free };
 
     ghost distinct = { λ d h s. distinct (classes_of d.chooser) (answering Q.says d.rows) };
 

@@ -1,7 +1,7 @@
 // What holds of every history of HFSC. The function does nothing: it states the law.
 ghost use Rattle.std.specs.Prelude.{◌≡◌, ◌<◌, ℕ, List};
 ghost use Rattle.altq_model.specs.Busy.{IsBusy};
-ghost use Rattle.altq_model.specs.History.{Happened, bare};
+ghost use Rattle.altq_model.specs.History.{LabelledEvent, unlabelled};
 ghost use Rattle.altq_model.specs.Link.{HasLinkEnds};
 ghost use Rattle.altq_model.specs.Policies.{Answering};
 ghost use Rattle.hfsc_model.specs.declared.HfscClass.{HfscClass};
@@ -20,7 +20,7 @@ use leaf_queue::QueueRule;
 /// ends are those of a link of that rate, and that link never idles while a leaf may send. The classes are those of `build`, whose
 /// policy the value keeps.
 pub fn leaves_are_timely<Q: QueueRule + Drop>(hfsc: &Hfsc<Q>)
-    ensures { (cs : List HfscClass) (answer : Answering) → ⟦<Hfsc<Q> as Discipline>⟧.policy hfsc.now ≡ hfsc_policy cs answer → IsClassTree cs
-        → (rate : ℕ) → 0 < rate → FitLink rate (reals cs) → (h : List Happened) → ⟦<Hfsc<Q> as Discipline>⟧.stands hfsc.now h
-        → HasLinkEnds rate (bare h) → IsBusy (hfsc_policy cs answer) rate (bare h) → IsTimely rate (reals cs) (hfsc_history (bare h)) }
+    ensures { (cs : List HfscClass) (answer : Answering) → (⟦<Hfsc<Q> as Discipline>⟧.view hfsc.now).policy ≡ hfsc_policy cs answer → IsClassTree cs
+        → (rate : ℕ) → 0 < rate → FitLink rate (reals cs) → (h : List LabelledEvent) → (⟦<Hfsc<Q> as Discipline>⟧.view hfsc.now).represents h
+        → HasLinkEnds rate (unlabelled h) → IsBusy (hfsc_policy cs answer) rate (unlabelled h) → IsTimely rate (reals cs) (hfsc_history (unlabelled h)) }
 {}

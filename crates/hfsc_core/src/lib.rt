@@ -9,7 +9,9 @@ mod chooser;
 mod hfsc;
 mod laws;
 mod leaves;
+mod without_limits;
 
 pub use hfsc::Hfsc;
 pub use hfsc_model::HfscClass;
 pub use laws::leaves_are_timely;
+pub use without_limits::next_never_waits;

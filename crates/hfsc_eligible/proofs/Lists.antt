@@ -16,7 +16,7 @@ use Rattle.hfsc_model.specs.RealTime.{curve_of, has_head}
 use Rattle.hfsc_eligible.specs.declared.slot.Slot.{Slot}
 use Rattle.hfsc_eligible.specs.declared.Eligible.{Eligible}
 use Rattle.hfsc_eligible.specs.Real.{RealStands, holds_head}
-use Rattle.hfsc_eligible.specs.Eligible.{StandsFor, head_at, head_in}
+use Rattle.hfsc_eligible.specs.Eligible.{Represents, head_at, head_in}
 use Rattle.runtime_curve.specs.declared.Opening.{Opening}
 use Rattle.runtime_curve.specs.declared.Running.{Running}
 use Rattle.ranking.proofs.Ranks.{same_test}
@@ -155,10 +155,10 @@ head_of_slot : (slots : List Slot) (c : ℕ) (d : Slot) → c < length slots →
 head_of_slot slots c d k = ap head_in (slice_get-get_or slots c d k)
 
 -- a packet kept in a class in which nothing waits opens it
-pub opened_stands : (e new : Eligible) (curves : List (Option Curve)) (h : HfscHistory) (class at len : ℕ) (old x : Slot) → StandsFor e curves h
+pub opened_stands : (e new : Eligible) (curves : List (Option Curve)) (h : HfscHistory) (class at len : ℕ) (old x : Slot) → Represents e curves h
     → class < length e.slots.items → head_at e class ≡ None → old ≡ get_or e.slots.items class old
     → ((o : Option Curve) (l : Leaf) → SlotStands old o l → l.waiting ≡ [] → SlotStands x o (after_kept at len l))
-    → new.slots.items ≡ slice_set e.slots.items class x → StandsFor new curves (Enqueued class at len ∷ h)
+    → new.slots.items ≡ slice_set e.slots.items class x → Represents new curves (Enqueued class at len ∷ h)
 opened_stands e new curves h class at len old x stands k empty is opened set =
     let was = subst (λ (z : Slot). SlotStands z (curve_of curves class) (leaf h class)) (sym is) (stands.each class old k) in
     let none : head_len (leaf h class).waiting ≡ None = sym was.head ∙ ap head_of is ∙ sym (head_of_slot e.slots.items class old k) ∙ empty in
@@ -187,8 +187,8 @@ more_slot x o l at len w y = record {
   head = y.head ∙ sym (more_waits l.waiting (record { at = at; len = len }) w);
 }
 
-pub more_stands : (e : Eligible) (curves : List (Option Curve)) (h : HfscHistory) (class at len : ℕ) → StandsFor e curves h → is_waiting (leaf h class).waiting ≡ true
-    → StandsFor e curves (Enqueued class at len ∷ h)
+pub more_stands : (e : Eligible) (curves : List (Option Curve)) (h : HfscHistory) (class at len : ℕ) → Represents e curves h → is_waiting (leaf h class).waiting ≡ true
+    → Represents e curves (Enqueued class at len ∷ h)
 more_stands e curves h class at len stands w = record {
   classes = stands.classes;
   each = λ c d n. go c d (class == c) refl n;
@@ -206,9 +206,9 @@ shared_slot : (x : Slot) (o : Option Curve) (l : Leaf) (len : ℕ) (head : Optio
     → head_len (drop 1 l.waiting) ≡ head → SlotStands x o (after_sent len false l)
 shared_slot x o l len head y was next h = record { real = y.real; count = y.count; head = was ∙ sym next ∙ sym h }
 
-pub shared_stands : (e : Eligible) (curves : List (Option Curve)) (h : HfscHistory) (class len start : ℕ) (counted : Bool) (head : Option ℕ) → StandsFor e curves h
+pub shared_stands : (e : Eligible) (curves : List (Option Curve)) (h : HfscHistory) (class len start : ℕ) (counted : Bool) (head : Option ℕ) → Represents e curves h
     → class < length e.slots.items → head_at e class ≡ Some len → counted ≡ false → head ≡ Some len
-    → head_len (leaf (Sent class len counted start ∷ h) class).waiting ≡ head → StandsFor e curves (Sent class len counted start ∷ h)
+    → head_len (leaf (Sent class len counted start ∷ h) class).waiting ≡ head → Represents e curves (Sent class len counted start ∷ h)
 shared_stands e curves h class len start counted head stands k waits share next left = record {
   classes = stands.classes;
   each = λ c d n. go c d (class == c) refl n;

@@ -14,7 +14,7 @@ use Rattle.hfsc_model.specs.RealTime.{curve_of, has_come, has_head, head_deadlin
 use Rattle.hfsc_model.proofs.Soonest.{eligible_from_soonest}
 use Rattle.hfsc_eligible.specs.declared.Eligible.{Eligible}
 use Rattle.hfsc_eligible.specs.Slot.{slot_deadline, slot_soonest}
-use Rattle.hfsc_eligible.specs.Eligible.{StandsFor, IsLeastOf, IsLeastSoonest, first_key, pick_now, soonest_now}
+use Rattle.hfsc_eligible.specs.Eligible.{Represents, IsLeastOf, IsLeastSoonest, first_key, pick_now, soonest_now}
 use Rattle.hfsc_eligible.proofs.Slots.{slot_deadline_is, slot_soonest_is}
 use Rattle.hfsc_eligible.proofs.Lists.{AllStand, ordered, key_is, no_slot}
 
@@ -75,10 +75,10 @@ has_moment (Some s) l u e = go (is_waiting l.waiting) refl
     go true f = f
     go false f = let none : soonest_of (Some s) l ≡ None = rw f refl in absurd cc
 
-all_stand : (e : Eligible) (curves : List (Option Curve)) (h : HfscHistory) → StandsFor e curves h → AllStand e.slots.items curves h
+all_stand : (e : Eligible) (curves : List (Option Curve)) (h : HfscHistory) → Represents e curves h → AllStand e.slots.items curves h
 all_stand e curves h x = record { classes = x.classes; each = x.each }
 
-pub soonest_is_least : (e : Eligible) (curves : List (Option Curve)) (h : HfscHistory) → StandsFor e curves h → IsLeastSoonest curves h (soonest_now e)
+pub soonest_is_least : (e : Eligible) (curves : List (Option Curve)) (h : HfscHistory) → Represents e curves h → IsLeastSoonest curves h (soonest_now e)
 soonest_is_least e curves h x =
     least_of_order (λ c. soonest_of (curve_of curves c) (leaf h c)) (λ c. has_head (curve_of curves c) (leaf h c)) (keys_of e.moments) (order_of e.moments)
     (ordered slot_soonest soonest_of e.slots.items e.moments curves h slot_soonest_is e.by_moment (all_stand e curves h x))
@@ -93,7 +93,7 @@ come_head o l now e = go (soonest_of o l) refl e
     go None f e = absurd cc
     go (Some u) f e = has_moment o l u f
 
-pub pick_is_real : (e : Eligible) (curves : List (Option Curve)) (h : HfscHistory) (now : ℕ) → StandsFor e curves h → AreOpenBy h now
+pub pick_is_real : (e : Eligible) (curves : List (Option Curve)) (h : HfscHistory) (now : ℕ) → Represents e curves h → AreOpenBy h now
     → MatchOption (pick_now e now) (NoneIsEligible curves h now) (IsRealPick curves h now)
 pick_is_real e curves h now x by = go (find test (order_of e.deadlines)) refl
   where

@@ -10,7 +10,7 @@ use Rattle.hfsc_eligible.specs.declared.slot.Slot.{Slot}
 use Rattle.hfsc_eligible.specs.declared.Eligible.{Eligible}
 use Rattle.hfsc_eligible.specs.Slot.{head_of, last_opening}
 use Rattle.hfsc_eligible.specs.Heads.{AreNew}
-use Rattle.hfsc_eligible.specs.Eligible.{IsNew, IsSameBut, head_in, head_at, opening_in, opening_at}
+use Rattle.hfsc_eligible.specs.Eligible.{NoneHasOpened, IsSameBut, head_in, head_at, opening_in, opening_at}
 use Rattle.hfsc_eligible.proofs.Lists.{no_slot}
 
 here : (xs : List Slot) (i : ℕ) (x : Slot) → i < length xs → slice_get (slice_set xs i x) i ≡ Some x
@@ -39,7 +39,7 @@ same_but old new class x e = record {
   openings = λ c n. ap opening_in (ap (λ (xs : List Slot). slice_get xs c) e ∙ other old.slots.items class c x n);
 }
 
-pub new_is : (e : Eligible) (curves : List (Option Curve)) → AreNew curves e.slots.items → IsNew e
+pub new_is : (e : Eligible) (curves : List (Option Curve)) → AreNew curves e.slots.items → NoneHasOpened e
 new_is e curves x = record {
   empty = λ c. head c (cases_lt c (length e.slots.items));
   closed = λ c. opening c (cases_lt c (length e.slots.items));

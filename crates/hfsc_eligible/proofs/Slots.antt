@@ -6,7 +6,7 @@ use Rattle.runtime_curve.specs.declared.Opening.{Opening}
 use Rattle.runtime_curve.specs.declared.Running.{Running}
 use Rattle.runtime_curve.specs.Opening.{opening}
 use Rattle.runtime_curve.specs.Running.{last_of}
-use Rattle.runtime_curve.specs.Running.{StandsFor}
+use Rattle.runtime_curve.specs.Running.{Represents}
 use Rattle.runtime_curve.specs.Deadline.{deadline, soonest}
 use Rattle.runtime_curve.proofs.Answered.{deadline_stands, soonest_stands}
 use Rattle.service_curve.specs.declared.Curve.{Curve}
@@ -41,7 +41,7 @@ begun_open false o at count e f = absurd cc
 len_of : (n m : ℕ) → Some n ≡ Some m → n ≡ m
 len_of n m e = cc
 
-waiting_deadline : (r : Running) (s : Curve) (l : Leaf) (count : ℕ) (head : Option ℕ) (ws : List Waiting) → StandsFor r s l.openings → l.count ≡ count → head ≡ head_len ws
+waiting_deadline : (r : Running) (s : Curve) (l : Leaf) (count : ℕ) (head : Option ℕ) (ws : List Waiting) → Represents r s l.openings → l.count ≡ count → head ≡ head_len ws
     → UpTo count (Some r) → ((n : ℕ) → head ≡ Some n → 1 ≤ n) → ((n : ℕ) → head ≡ Some n → IsOpen (Some r)) → deadline_in (Some r) count head ≡ deadline_of s l ws
 waiting_deadline r s l count None [] stands e f up long opens = refl
 waiting_deadline r s l count None (w ∷ ws) stands e f up long opens = absurd cc
@@ -59,7 +59,7 @@ deadline_is None (Some s) l count head stands e f up long opens = absurd stands
 deadline_is (Some r) None l count head stands e f up long opens = absurd stands
 deadline_is (Some r) (Some s) l count head stands e f up long opens = waiting_deadline r s l count head l.waiting stands e f up long opens
 
-waiting_soonest : (r : Running) (s : Curve) (l : Leaf) (count : ℕ) (head : Option ℕ) (ws : List Waiting) → StandsFor r s l.openings → l.count ≡ count → head ≡ head_len ws
+waiting_soonest : (r : Running) (s : Curve) (l : Leaf) (count : ℕ) (head : Option ℕ) (ws : List Waiting) → Represents r s l.openings → l.count ≡ count → head ≡ head_len ws
     → ((n : ℕ) → head ≡ Some n → IsOpen (Some r)) → soonest_in (Some r) count head ≡ (if is_waiting ws then soonest s l.openings l.count else None)
 waiting_soonest r s l count None [] stands e f opens = refl
 waiting_soonest r s l count None (w ∷ ws) stands e f opens = absurd cc

@@ -32,7 +32,7 @@ abbrev pub opening_at : Eligible → ℕ → Option Opening
 opening_at e c = opening_in (slice_get e.slots.items c)
 
 -- nothing waits in any class, and none has opened
-pub record IsNew (e : Eligible) : Type 0 where
+pub record NoneHasOpened (e : Eligible) : Type 0 where
   pub empty : (c : ℕ) → head_at e c ≡ None
   pub closed : (c : ℕ) → opening_at e c ≡ None
 
@@ -43,7 +43,7 @@ pub record IsSameBut (class : ℕ) (old new : Eligible) : Type 0 where
   pub openings : (c : ℕ) → (c ≡ class → ⊥) → opening_at new c ≡ opening_at old c
 
 -- each class has the openings, the count and the head that it has after the history
-pub record StandsFor (e : Eligible) (curves : List (Option Curve)) (h : HfscHistory) : Type 0 where
+pub record Represents (e : Eligible) (curves : List (Option Curve)) (h : HfscHistory) : Type 0 where
   pub classes : length e.slots.items ≡ length curves
   pub each : (c : ℕ) (d : Slot) → c < length e.slots.items → SlotStands (slice_index_or e.slots.items c d) (curve_of curves c) (leaf h c)
 

@@ -6,7 +6,7 @@ use Rattle.service_curve.specs.Curve.{IsInRange}
 use Rattle.runtime_curve.specs.declared.Opening.{Opening}
 use Rattle.runtime_curve.specs.declared.Running.{Running}
 use Rattle.runtime_curve.specs.Opening.{RisesFromZero}
-use Rattle.runtime_curve.specs.Running.{StandsFor, last_of, deadline_now, soonest_now}
+use Rattle.runtime_curve.specs.Running.{Represents, last_of, deadline_now, soonest_now}
 
 -- a curve that a class may have
 pub record IsCurve (s : Curve) : Type 0 where
@@ -50,4 +50,4 @@ abbrev pub RealStands : Option Running → Option Curve → List Opening → Typ
 RealStands None None os = Unit {0}
 RealStands None (Some s) os = ⊥
 RealStands (Some r) None os = ⊥
-RealStands (Some r) (Some s) os = StandsFor r s os
+RealStands (Some r) (Some s) os = Represents r s os

@@ -46,16 +46,16 @@ pub struct Eligible {
 }
 
 impl Eligible {
-    ghost use Rattle.hfsc_eligible.specs.Eligible.{StandsFor, IsLeastSoonest, IsNew, IsSameBut, classes_of, come_at, head_at, opening_at, pick_now, soonest_now};
+    ghost use Rattle.hfsc_eligible.specs.Eligible.{Represents, IsLeastSoonest, NoneHasOpened, IsSameBut, classes_of, come_at, head_at, opening_at, pick_now, soonest_now};
 
     /// The classes of these real-time curves, without a packet. A curve that is 0 everywhere counts as none. There are at
     /// most 256; a curve whose slope rises has to rise from 0.
     pub fn build(alloc: Global, curves: &[Option<Curve>]) -> Result<Eligible, NoMemory>
         requires classes { length curves.now ≤ 256 }
         requires curves { All CanCarry curves.now }
-        ensures stands { IfOk result (λ e. StandsFor e curves.now []) }
+        ensures stands { IfOk result (λ e. Represents e curves.now []) }
         ensures classes { IfOk result (λ e. classes_of e ≡ length curves.now) }
-        ensures new { IfOk result IsNew }
+        ensures new { IfOk result NoneHasOpened }
     {
         let slots = slots_of(alloc, curves)?;
         let classes = slots.len() as u32;
@@ -75,8 +75,8 @@ impl Eligible {
         requires empty { head_at self.old class ≡ None }
         requires len { 1 ≤ len }
         requires later { ForSome (opening_at self.old class) (λ last. last.at ≤ at) }
-        ensures stands { (curves : List (Option Curve)) (h : HfscHistory) → StandsFor self.old curves h
-            → StandsFor self.new curves (Enqueued class at len ∷ h) }
+        ensures stands { (curves : List (Option Curve)) (h : HfscHistory) → Represents self.old curves h
+            → Represents self.new curves (Enqueued class at len ∷ h) }
         ensures head { head_at self.new class ≡ Some len }
         ensures opening { ForSome (opening_at self.new class) (λ last. last.at ≡ at) }
         ensures others { IsSameBut class self.old self.new }
@@ -93,10 +93,10 @@ impl Eligible {
         requires class { class < classes_of self.old }
         requires waits { head_at self.old class ≡ Some len }
         requires head { ForSome head (λ n. 1 ≤ n) }
-        ensures stands { (curves : List (Option Curve)) (h : HfscHistory) (start : ℕ) → StandsFor self.old curves h
+        ensures stands { (curves : List (Option Curve)) (h : HfscHistory) (start : ℕ) → Represents self.old curves h
             → head_len (leaf (Sent class len counted start ∷ h) class).waiting ≡ head
             → (leaf (Sent class len counted start ∷ h) class).count ≤ 2 ^ 99
-            → StandsFor self.new curves (Sent class len counted start ∷ h) }
+            → Represents self.new curves (Sent class len counted start ∷ h) }
         ensures next { head_at self.new class ≡ head }
         ensures opening { opening_at self.new class ≡ opening_at self.old class }
         ensures others { IsSameBut class self.old self.new }
@@ -113,7 +113,7 @@ impl Eligible {
     /// eligible one by moment, whichever comes sooner.
     #[inline(always)]
     pub fn pick(&self, now: u64) -> Option<u32>
-        ensures pick { (curves : List (Option Curve)) (h : HfscHistory) → StandsFor self.now curves h → AreOpenBy h now
+        ensures pick { (curves : List (Option Curve)) (h : HfscHistory) → Represents self.now curves h → AreOpenBy h now
             → MatchOption result (NoneIsEligible curves h now) (IsRealPick curves h now) }
         ensures is { result ≡ pick_now self.now now }
     {
@@ -123,7 +123,7 @@ impl Eligible {
     /// The least moment from which some head is eligible, not before the last opening of its class. `None` comes exactly
     /// where no head that waits ever becomes eligible. Constant time.
     pub fn soonest(&self) -> Option<u128>
-        ensures least { (curves : List (Option Curve)) (h : HfscHistory) → StandsFor self.now curves h → IsLeastSoonest curves h result }
+        ensures least { (curves : List (Option Curve)) (h : HfscHistory) → Represents self.now curves h → IsLeastSoonest curves h result }
         ensures is { result ≡ soonest_now self.now }
     {
         self.first_moment()
@@ -131,7 +131,7 @@ impl Eligible {
 
     /// The classes with a curve and a head, in the order of their deadlines, those without a deadline last. Constant time.
     pub fn ranked(&self) -> &[u32]
-        ensures { (curves : List (Option Curve)) (h : HfscHistory) → StandsFor self.now curves h
+        ensures { (curves : List (Option Curve)) (h : HfscHistory) → Represents self.now curves h
             → IsOrderOf (λ c. head_deadline (curve_of curves c) (leaf h c)) (λ c. has_head (curve_of curves c) (leaf h c)) result.now }
     {
         self.deadlines.as_slice()
@@ -140,7 +140,7 @@ impl Eligible {
     /// The same classes in the order of the first moments, not before the last opening of a class, from which their heads
     /// are eligible, those without such a moment last. Constant time.
     pub fn early(&self) -> &[u32]
-        ensures { (curves : List (Option Curve)) (h : HfscHistory) → StandsFor self.now curves h
+        ensures { (curves : List (Option Curve)) (h : HfscHistory) → Represents self.now curves h
             → IsOrderOf (λ c. soonest_of (curve_of curves c) (leaf h c)) (λ c. has_head (curve_of curves c) (leaf h c)) result.now }
     {
         self.moments.as_slice()
@@ -151,10 +151,10 @@ impl Eligible {
         requires class { class < classes_of self.old }
         requires waits { head_at self.old class ≡ Some len }
         requires head { ForSome head (λ n. 1 ≤ n) }
-        ensures stands { (curves : List (Option Curve)) (h : HfscHistory) (start : ℕ) → StandsFor self.old curves h
+        ensures stands { (curves : List (Option Curve)) (h : HfscHistory) (start : ℕ) → Represents self.old curves h
             → head_len (leaf (Sent class len counted start ∷ h) class).waiting ≡ head
             → (leaf (Sent class len counted start ∷ h) class).count ≤ 2 ^ 99
-            → StandsFor self.new curves (Sent class len counted start ∷ h) }
+            → Represents self.new curves (Sent class len counted start ∷ h) }
         ensures next { head_at self.new class ≡ head }
         ensures opening { opening_at self.new class ≡ opening_at self.old class }
         ensures others { IsSameBut class self.old self.new }

@@ -7,7 +7,7 @@ use Rattle.ranking.specs.Order.{is_in, key_of}
 use Rattle.ranking.specs.Ranking.{keys_of, order_of}
 use Rattle.ranking.specs.Search.{IsRanked}
 use Rattle.ranking.proofs.Ranks.{ranked_true, same_test}
-use Rattle.ranking.proofs.Subsets.{IsMore, IsWithin, all_within, one_more}
+use Rattle.ranking.proofs.Subsets.{IsMore, IsSubset, all_within, one_more}
 use Rattle.service_curve.specs.declared.Curve.{Curve}
 use Rattle.runtime_curve.specs.Deadline.{later_of}
 use Rattle.hfsc_model.specs.declared.HfscClass.{HfscClass}
@@ -22,7 +22,7 @@ use Rattle.hfsc_groups.specs.declared.group.Group.{Group}
 use Rattle.hfsc_groups.specs.Curves.{limit_opens}
 use Rattle.hfsc_groups.specs.Classes.{IsLimit, opens_under}
 use Rattle.hfsc_groups.specs.Node.{parent_in, active_in, opens_in, is_child_in, is_active_child, NodeStands, OpensAt}
-use Rattle.hfsc_groups.specs.declared.late.Late.{Late}
+use Rattle.hfsc_groups.specs.declared.late.LimitedChildren.{LimitedChildren}
 use Rattle.hfsc_groups.specs.Late.{first_key, is_late, late_keys, late_order}
 use Rattle.hfsc_groups.specs.Group.{Delays, GroupHolds, Ranks, first_moment, time_key}
 use Rattle.hfsc_groups.proofs.Found.{IsNode, node_of}
@@ -57,7 +57,7 @@ active_is_in cs h last p nodes c s = go (is_child cs p c) refl
     go false e = ap (λ b. b && active_in (slice_get nodes c)) (child_is cs h last p nodes c s ∙ e)
 
 -- its first moment tells whether a child is open
-pub key_opens : (cs : List HfscClass) (h : HfscHistory) (last p now : ℕ) (nodes : List Node) (r : Late) (c : ℕ) → Stand cs h last p nodes → Delays nodes p r → last ≤ now
+pub key_opens : (cs : List HfscClass) (h : HfscHistory) (last p now : ℕ) (nodes : List Node) (r : LimitedChildren) (c : ℕ) → Stand cs h last p nodes → Delays nodes p r → last ≤ now
     → is_child cs p c ≡ true → active cs h c ≡ true → has_come (key_of (late_keys r) c) now ≡ opens_under cs h now c
 key_opens cs h last p now nodes r c s ranks later k a =
     let n = child_node cs h last p nodes c s k in
@@ -70,7 +70,7 @@ pub in_list : (cs : List HfscClass) (h : HfscHistory) (last p : ℕ) (nodes : Li
 in_list cs h last p nodes key r c s ranks = ranks.exactly c ∙ active_is_in cs h last p nodes c s
 
 -- where each active child stands in the list by moments, its first tells whether a class is open
-listed_opens : (cs : List HfscClass) (h : HfscHistory) (last p now : ℕ) (nodes : List Node) (r : Late) → IsTree cs → Stand cs h last p nodes → Delays nodes p r
+listed_opens : (cs : List HfscClass) (h : HfscHistory) (last p now : ℕ) (nodes : List Node) (r : LimitedChildren) → IsTree cs → Stand cs h last p nodes → Delays nodes p r
     → ((c : ℕ) → is_in c (late_order r) ≡ (is_child cs p c && active cs h c)) → last ≤ now → active cs h p ≡ true
     → opens_under cs h now p ≡ (is_within cs h now p && has_come (first_key (late_keys r) (late_order r)) now)
 listed_opens cs h last p now nodes r t s ranks listed later a = go (is_leaf cs p) refl
@@ -124,7 +124,7 @@ at_once : (k : Option ℕ) (now : ℕ) → is_late k ≡ false → has_come k no
 at_once None now e = absurd cc
 at_once (Some t) now e = grind (arith, nat_tests, e)
 
-within : (cs : List HfscClass) (h : HfscHistory) (last p : ℕ) (nodes : List Node) (g : Group) → GroupHolds nodes p g → IsWithin (late_order g.moments) (order_of g.times)
+within : (cs : List HfscClass) (h : HfscHistory) (last p : ℕ) (nodes : List Node) (g : Group) → GroupHolds nodes p g → IsSubset (late_order g.moments) (order_of g.times)
 within cs h last p nodes g holds d i =
     holds.times.exactly d ∙ (and_true (is_active_child nodes p d) (is_late (opens_in (slice_get nodes d))) (sym (holds.moments.exactly d) ∙ i)).0
 
@@ -167,7 +167,7 @@ first_opens cs h last p now nodes g t s holds later a = go (length (late_order g
     by_times : IsRanked (keys_of g.times) (order_of g.times)
     by_times = ranked_true (keys_of g.times) (order_of g.times) g.times.ranked
 
-    inside : IsWithin (late_order g.moments) (order_of g.times)
+    inside : IsSubset (late_order g.moments) (order_of g.times)
     inside = within cs h last p nodes g holds
 
     listed : length (late_order g.moments) ≡ length (order_of g.times) → (c : ℕ) → is_in c (late_order g.moments) ≡ (is_child cs p c && active cs h c)

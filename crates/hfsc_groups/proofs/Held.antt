@@ -14,7 +14,7 @@ use Rattle.hfsc_groups.specs.declared.node.Node.{Node}
 use Rattle.hfsc_groups.specs.declared.group.Group.{Group}
 use Rattle.hfsc_groups.specs.Curves.{IsBy}
 use Rattle.hfsc_groups.specs.Node.{parent_in, active_in, time_in, opens_in, is_child_in, is_active_child, AreParentsFirst, AreLimitsBy}
-use Rattle.hfsc_groups.specs.declared.late.Late.{Late}
+use Rattle.hfsc_groups.specs.declared.late.LimitedChildren.{LimitedChildren}
 use Rattle.hfsc_groups.specs.Late.{IsDelayed, is_late, late_keys, late_order}
 use Rattle.hfsc_groups.specs.Group.{Delays, Ranks, IsHigh, GroupHolds, GroupsHold, IsChanged, MayChange, AreRanked, time_key}
 use Rattle.hfsc_groups.proofs.Places.{get_here, get_other}
@@ -89,7 +89,7 @@ ranks_changed key nodes class x p old new put of ranks r = record {
         r.others c n ∙ ranks.keys c (sym (ap (λ (o : Option Node). is_number p (parent_in o) && active_in o) there) ∙ a) ∙ sym (ap key there))
 
 -- the same of the list by moments
-delays_changed : (nodes : List Node) (class : ℕ) (x : Node) (p : ℕ) (old new : Late) → IsPut nodes class x → x.parent ≡ Some p
+delays_changed : (nodes : List Node) (class : ℕ) (x : Node) (p : ℕ) (old new : LimitedChildren) → IsPut nodes class x → x.parent ≡ Some p
     → Delays nodes p old → IsDelayed class x.active x.opens old new → Delays (slice_set nodes class x) p new
 delays_changed nodes class x p old new put of delays r = record {
   places = λ c k. r.places c (delays.places c (sym (child_kept nodes class x p c put) ∙ k));
@@ -183,7 +183,7 @@ ranks_kept key nodes class x p r put other ranks = record {
     child_of : (c : ℕ) → c ≡ class → is_active_child nodes p c ≡ true → is_child_in nodes p class ≡ true
     child_of c s a = ap (λ n. is_child_in nodes p n) (sym s) ∙ front (is_child_in nodes p c) (active_in (slice_get nodes c)) a
 
-delays_kept : (nodes : List Node) (class : ℕ) (x : Node) (p : ℕ) (r : Late) → IsPut nodes class x → (x.parent ≡ Some p → ⊥)
+delays_kept : (nodes : List Node) (class : ℕ) (x : Node) (p : ℕ) (r : LimitedChildren) → IsPut nodes class x → (x.parent ≡ Some p → ⊥)
     → Delays nodes p r → Delays (slice_set nodes class x) p r
 delays_kept nodes class x p r put other delays = record {
   places = λ c k. delays.places c (sym (child_kept nodes class x p c put) ∙ k);

@@ -9,4 +9,4 @@ pub mod Moments
 pub mod Children
 pub mod New
 pub mod Parents
-pub mod Calm
+pub mod NeverLimited

@@ -10,7 +10,7 @@ use Rattle.hfsc_model.specs.Tree.{is_number}
 use Rattle.hfsc_groups.specs.declared.node.Node.{Node}
 use Rattle.hfsc_groups.specs.Node.{active_in, parent_in, is_active_child}
 use Rattle.hfsc_groups.specs.Group.{Ranks}
-use Rattle.hfsc_groups.specs.declared.late.Late.{Late}
+use Rattle.hfsc_groups.specs.declared.late.LimitedChildren.{LimitedChildren}
 use Rattle.hfsc_groups.specs.Late.{late_keys, late_order}
 use Rattle.ranking.specs.Search.{IsRanked}
 use Rattle.ranking.proofs.Ranks.{ranked_true, same_test, in_more}
@@ -26,7 +26,7 @@ got_in (x ∷ xs) zero c e = let same : x ≡ c = cc in rw same (rw (same_test c
 got_in (x ∷ xs) (suc k) c e = in_more x c xs (got_in xs k c e)
 
 -- the children that open late stand in order
-pub late_ranked : (l : Late) → IsRanked (late_keys l) (late_order l)
+pub late_ranked : (l : LimitedChildren) → IsRanked (late_keys l) (late_order l)
 late_ranked l = ranked_true (late_keys l) (late_order l) l.ranking.ranked
 
 -- what stands in the list of a group is a class

@@ -13,7 +13,7 @@ use Rattle.hfsc_groups.specs.declared.node.Node.{Node}
 use Rattle.hfsc_groups.specs.declared.group.Group.{Group}
 use Rattle.hfsc_groups.specs.Classes.{AreClasses}
 use Rattle.hfsc_groups.specs.Node.{active_in, parent_in, time_in, opens_in, is_child_in, is_active_child, AreNew, AreParentsFirst, AreLimitsBy, IsNewNode}
-use Rattle.hfsc_groups.specs.declared.late.Late.{Late}
+use Rattle.hfsc_groups.specs.declared.late.LimitedChildren.{LimitedChildren}
 use Rattle.hfsc_groups.specs.Late.{HasLatePlace, is_late, late_order}
 use Rattle.hfsc_groups.specs.Group.{AreEmpty, Delays, GroupsHold, IsEmpty, IsNewGroup, Ranks, time_key}
 use Rattle.hfsc_groups.proofs.Found.{outside_parent}
@@ -96,7 +96,7 @@ empty_ranks cs nodes p key r new empty room = record {
   keys = λ c a. let no = no_active cs nodes p c new in absurd cc;
 }
 
-empty_delays : (cs : List HfscClass) (nodes : List Node) (p : ℕ) (r : Late) → AreNew cs nodes → late_order r ≡ []
+empty_delays : (cs : List HfscClass) (nodes : List Node) (p : ℕ) (r : LimitedChildren) → AreNew cs nodes → late_order r ≡ []
     → ((c : ℕ) → is_child cs p c ≡ true → HasLatePlace r c) → Delays nodes p r
 empty_delays cs nodes p r new empty room = record {
   places = λ c k. room c (sym (ap (is_number p) (parent_is cs nodes c new)) ∙ k);

@@ -7,7 +7,7 @@ use Rattle.runtime_curve.specs.declared.Running.{Running}
 use Rattle.runtime_curve.specs.Opening.{RisesFromZero}
 use Rattle.runtime_curve.specs.Deadline.{soonest}
 use Rattle.hfsc_model.specs.declared.HfscClass.{HfscClass}
-use Rattle.runtime_curve.specs.Running.{StandsFor, last_of}
+use Rattle.runtime_curve.specs.Running.{Represents, last_of}
 
 -- a curve that a class may have
 pub record IsCurve (s : Curve) : Type 0 where
@@ -38,7 +38,7 @@ abbrev pub RunningStands : Option Running → Option Curve → List Opening → 
 RunningStands None None os = Unit {0}
 RunningStands None (Some s) os = ⊥
 RunningStands (Some r) None os = ⊥
-RunningStands (Some r) (Some s) os = StandsFor r s os
+RunningStands (Some r) (Some s) os = Represents r s os
 
 -- the root takes no virtual time, so its link-sharing curve has no effect
 abbrev pub share_of : HfscClass → Option Curve

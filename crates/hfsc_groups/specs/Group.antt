@@ -10,7 +10,7 @@ use Rattle.hfsc_model.specs.RealTime.{has_come}
 use Rattle.hfsc_model.specs.Tree.{is_child}
 use Rattle.hfsc_groups.specs.declared.node.Node.{Node}
 use Rattle.hfsc_groups.specs.declared.group.Group.{Group}
-use Rattle.hfsc_groups.specs.declared.late.Late.{Late}
+use Rattle.hfsc_groups.specs.declared.late.LimitedChildren.{LimitedChildren}
 use Rattle.hfsc_groups.specs.Lists.{MayReplace}
 use Rattle.hfsc_groups.specs.Late.{HasLatePlace, IsDelayed, IsNewLate, MayDelay, first_key, is_late, late_keys, late_order}
 use Rattle.hfsc_groups.specs.Node.{is_child_in, is_active_child, time_in, opens_in}
@@ -22,7 +22,7 @@ pub record Ranks (nodes : List Node) (p : ℕ) (key : Option Node → Option ℕ
   pub keys : (c : ℕ) → is_active_child nodes p c ≡ true → key_of (keys_of ranking) c ≡ key (slice_get nodes c)
 
 -- exactly the active children of p that open late stand in a list; each that is active has its key
-pub record Delays (nodes : List Node) (p : ℕ) (late : Late) : Type 0 where
+pub record Delays (nodes : List Node) (p : ℕ) (late : LimitedChildren) : Type 0 where
   pub places : (c : ℕ) → is_child_in nodes p c ≡ true → HasLatePlace late c
   pub exactly : (c : ℕ) → is_in c (late_order late) ≡ (is_active_child nodes p c && is_late (opens_in (slice_get nodes c)))
   pub keys : (c : ℕ) → is_active_child nodes p c ≡ true → key_of (late_keys late) c ≡ opens_in (slice_get nodes c)

@@ -3,23 +3,23 @@ use Rattle.std.specs.Prelude.{◌≡◌, ◌+◌, ◌&&◌, ◌==◌, ℕ, nat_l
 use Rattle.ranking.specs.Order.{is_in, key_of}
 use Rattle.ranking.specs.Ranking.{HasPlace, first_of, keys_of, order_of}
 use Rattle.ranking.specs.declared.Ranking.{Ranking}
-use Rattle.hfsc_groups.specs.Calm.{IsCalm}
-use Rattle.hfsc_groups.specs.declared.late.Late.{Late}
+use Rattle.hfsc_groups.specs.NeverLimited.{IsNeverLimited}
+use Rattle.hfsc_groups.specs.declared.late.LimitedChildren.{LimitedChildren}
 
 -- the key of each class
-abbrev pub late_keys : Late → List (Option ℕ)
+abbrev pub late_keys : LimitedChildren → List (Option ℕ)
 late_keys l = keys_of l.ranking
 
 -- the classes that are there, in their order
-abbrev pub late_order : Late → List ℕ
+abbrev pub late_order : LimitedChildren → List ℕ
 late_order l = order_of l.ranking
 
 -- there is a place for the key of a class
-abbrev pub HasLatePlace : Late → ℕ → Type 0
+abbrev pub HasLatePlace : LimitedChildren → ℕ → Type 0
 HasLatePlace l c = HasPlace l.ranking c
 
 -- no class is there; there is a place for each of `count` classes from `from` on
-pub record IsNewLate (from count : ℕ) (l : Late) : Type 0 where
+pub record IsNewLate (from count : ℕ) (l : LimitedChildren) : Type 0 where
   pub order : late_order l ≡ []
   pub first : first_of l.ranking ≡ from
   pub places : length (keys_of l.ranking) ≡ from + count
@@ -30,8 +30,8 @@ is_late None = true
 is_late (Some t) = nat_lt 0 t
 
 -- nor is a class that opens from this moment
-pub record StaysCalm (opens : Option ℕ) (r : Ranking) : Type 0 where
-  pub calm : IsCalm r
+pub record StaysNeverLimited (opens : Option ℕ) (r : Ranking) : Type 0 where
+  pub never_limited : IsNeverLimited r
   pub at_once : is_late opens ≡ false
 
 abbrev pub first_key : List (Option ℕ) → List ℕ → Option ℕ
@@ -39,11 +39,11 @@ first_key keys [] = Some 0
 first_key keys (c ∷ cs) = key_of keys c
 
 -- what holds before a child is placed anew, and after
-pub record MayDelay (class : ℕ) (was : Bool) (old : Late) : Type 0 where
+pub record MayDelay (class : ℕ) (was : Bool) (old : LimitedChildren) : Type 0 where
   pub place : HasLatePlace old class
   pub there : is_in class (late_order old) ≡ (was && is_late (key_of (late_keys old) class))
 
-pub record IsDelayed (class : ℕ) (is : Bool) (opens : Option ℕ) (old new : Late) : Type 0 where
+pub record IsDelayed (class : ℕ) (is : Bool) (opens : Option ℕ) (old new : LimitedChildren) : Type 0 where
   pub places : (c : ℕ) → HasLatePlace old c → HasLatePlace new c
   pub classes : (c : ℕ) → is_in c (late_order new) ≡ (if class == c then is && is_late opens else is_in c (late_order old))
   pub keyed : key_of (late_keys new) class ≡ opens

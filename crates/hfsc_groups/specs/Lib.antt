@@ -1,7 +1,7 @@
 pub mod Curves
 pub mod Classes
 pub mod Lists
-pub mod Calm
+pub mod NeverLimited
 pub mod Late
 pub mod Node
 pub mod Group

@@ -4,7 +4,7 @@ ghost use Rattle.std.specs.Prelude.{◌≡◌, ℕ, Option, Some, [], max, slice
 ghost use Rattle.hfsc_model.specs.RealTime.{has_come};
 ghost use Rattle.hfsc_groups.specs.Lists.{HasKeys};
 
-use crate::late::Late;
+use crate::late::LimitedChildren;
 use play_base::NoMemory;
 use ranking::Ranking;
 use std::alloc::Global;
@@ -14,7 +14,7 @@ use std::alloc::Global;
 #[derive(Drop)]
 pub struct Group {
     times: Ranking,
-    moments: Late,
+    moments: LimitedChildren,
     high: u128,
 }
 
@@ -27,7 +27,7 @@ impl Group {
     {
         let places = classes.saturating_sub(first);
         let times = Ranking::reserve(alloc, first, places, None)?;
-        let moments = Late::reserve(alloc, first, places)?;
+        let moments = LimitedChildren::reserve(alloc, first, places)?;
         Ok(Group {
             times,
             moments,
@@ -51,10 +51,10 @@ impl Group {
 
     /// Whether no child ever opened later than at once: then the first moment is 0. Constant time.
     #[inline(always)]
-    pub fn is_calm(&self) -> bool
+    pub fn is_never_limited(&self) -> bool
         ensures { result ≡ true → first_moment self.now ≡ Some 0 }
     {
-        self.moments.is_calm()
+        self.moments.is_never_limited()
     }
 
     /// The first moment from which a child opens, 0 where no child is active. One that opens at once stands in the first list
@@ -74,7 +74,7 @@ impl Group {
         requires { HasKeys self.now.times self.now.moments }
         ensures { result ≡ first_open now self.now }
     {
-        if self.moments.is_calm() {
+        if self.moments.is_never_limited() {
             return front(self.times.as_slice());
         }
         for class in self.times.as_slice() {

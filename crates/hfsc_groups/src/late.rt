@@ -1,49 +1,49 @@
 //! The children that open late, in the order of the moments from which they open.
 ghost use Rattle.std.specs.Prelude.{◌≡◌, Option, length, true, IfOk};
 ghost use Rattle.ranking.specs.Order.{key_of};
-ghost use Rattle.hfsc_groups.specs.Calm.{IsCalm};
+ghost use Rattle.hfsc_groups.specs.NeverLimited.{IsNeverLimited};
 
 use crate::delays::{delay_in, first_key_in, is_late};
 use play_base::NoMemory;
 use ranking::Ranking;
 use std::alloc::Global;
 
-/// The children of a class that open late. While none ever did it is `calm`: the list is empty, and all keys are 0.
+/// The children of a class that open late. While none ever did it is `never_limited`: the list is empty, and all keys are 0.
 #[derive(Drop)]
-pub struct Late {
-    calm: bool,
+pub struct LimitedChildren {
+    never_limited: bool,
     ranking: Ranking,
-    ghost calm_is: { calm ≡ true → IsCalm ranking },
+    ghost never_limited_is: { never_limited ≡ true → IsNeverLimited ranking },
 }
 
-impl Late {
-    ghost use Rattle.hfsc_groups.specs.Late.{IsDelayed, IsNewLate, MayDelay, StaysCalm, first_key, late_keys, late_order};
+impl LimitedChildren {
+    ghost use Rattle.hfsc_groups.specs.Late.{IsDelayed, IsNewLate, MayDelay, StaysNeverLimited, first_key, late_keys, late_order};
 
     /// No child, with room for `classes` classes from `first` on.
-    pub fn reserve(alloc: Global, first: u32, classes: u32) -> Result<Late, NoMemory>
+    pub fn reserve(alloc: Global, first: u32, classes: u32) -> Result<LimitedChildren, NoMemory>
         ensures { IfOk result (IsNewLate first classes) }
     {
         let ranking = Ranking::reserve(alloc, first, classes, Some(0))?;
-        Ok(Late {
-            calm: true,
+        Ok(LimitedChildren {
+            never_limited: true,
             ranking,
         })
     }
 
     /// Whether no child ever opened late.
     #[inline(always)]
-    pub fn is_calm(&self) -> bool
-        ensures { result ≡ true → IsCalm self.now.ranking }
+    pub fn is_never_limited(&self) -> bool
+        ensures { result ≡ true → IsNeverLimited self.now.ranking }
     {
-        self.calm
+        self.never_limited
     }
 
     /// Whether no child ever opened late, nor does one that opens from this moment.
     #[inline(always)]
-    fn stays_calm(&self, opens: &Option<u128>) -> bool
-        ensures { result ≡ true → StaysCalm opens.now self.now.ranking }
+    fn stays_never_limited(&self, opens: &Option<u128>) -> bool
+        ensures { result ≡ true → StaysNeverLimited opens.now self.now.ranking }
     {
-        if !self.calm {
+        if !self.never_limited {
             return false;
         }
         !is_late(*opens)
@@ -77,10 +77,10 @@ impl Late {
         requires { MayDelay class was self.old }
         ensures { IsDelayed class is opens.now self.old self.new }
     {
-        if self.stays_calm(opens) {
+        if self.stays_never_limited(opens) {
             return;
         }
-        self.calm = false;
+        self.never_limited = false;
         delay_in(&mut self.ranking, class, was, is, *opens);
     }
 }

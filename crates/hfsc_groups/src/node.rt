@@ -5,7 +5,7 @@ ghost use Rattle.service_curve.specs.declared.Curve.{Curve};
 ghost use Rattle.runtime_curve.specs.declared.Opening.{Opening};
 ghost use Rattle.runtime_curve.specs.Opening.{opening};
 ghost use Rattle.runtime_curve.specs.Deadline.{deadline, later_of};
-ghost use Rattle.runtime_curve.specs.Running.{StandsFor, last_of};
+ghost use Rattle.runtime_curve.specs.Running.{Represents, last_of};
 ghost use Rattle.hfsc_model.specs.Share.{or_zero};
 ghost use Rattle.hfsc_groups.specs.Curves.{CanCarry, RunningStands, IsBy, IsUpTo, IsOpen, last_in, limit_opens, share_of, since};
 ghost use Rattle.hfsc_groups.specs.Classes.{IsClass};
@@ -136,7 +136,7 @@ impl Node {
         ensures { (o : Option Curve) (os : List Opening) → RunningStands self.now.limit o os
             → result ≡ since last (later_of (limit_opens o os self.now.total) (first_moment below.now)) }
     {
-        if self.limit.is_none() && below.is_calm() {
+        if self.limit.is_none() && below.is_never_limited() {
             return Some(0);
         }
         since(
@@ -214,7 +214,7 @@ fn time_by(share: &Running, time: u128, total: u128) -> u128
     requires opened { IsSomeAnd (last_of share.now) (λ last. last.count < total) }
     ensures later { time ≤ result }
     ensures most { result ≤ 2 ^ 79 }
-    ensures grown { (s : Curve) (os : List Opening) → StandsFor share.now s os
+    ensures grown { (s : Curve) (os : List Opening) → Represents share.now s os
         → result ≡ min (max time (or_zero (deadline s os total))) (2 ^ 79) }
 {
     let reached = share.deadline(total).unwrap_or(0);

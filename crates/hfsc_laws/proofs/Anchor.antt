@@ -31,8 +31,8 @@ counts h c = (leaf h c).count
 abbrev in_all : Guarantee → (ℕ → ℕ) → ℕ
 in_all g f = sum_below f (length g.curves)
 
-abbrev Stands : Guarantee → (now base c : ℕ) → Leaf → Type 0
-Stands g now base c l = Standing (curve_of g.curves c) g.until now base l
+abbrev LeafStands : Guarantee → (now base c : ℕ) → Leaf → Type 0
+LeafStands g now base c l = Standing (curve_of g.curves c) g.until now base l
 
 -- from the moment `now` on, not later than `latest`, at which the leaves' counts were `base`. What the link carried, less what
 -- the leaves sent by real time since, fits the time up to `now` and the longest packet's time
@@ -41,10 +41,10 @@ record Anchored (g : Guarantee) (h : HfscHistory) (sent latest : ℕ) : Type 0 w
   base : ℕ → ℕ
   before : now ≤ latest
   line : sent + in_all g base ≤ g.rate * (now + g.most) + in_all g (counts h)
-  standing : (c : ℕ) → Stands g now (base c) c (leaf h c)
+  standing : (c : ℕ) → LeafStands g now (base c) c (leaf h c)
 
 from_here : (g : Guarantee) (h : HfscHistory) (sent now latest : ℕ) → now ≤ latest → sent ≤ g.rate * (now + g.most)
-    → ((c : ℕ) → Stands g now (counts h c) c (leaf h c)) → Anchored g h sent latest
+    → ((c : ℕ) → LeafStands g now (counts h c) c (leaf h c)) → Anchored g h sent latest
 from_here g h sent now latest b l f = record { now = now; base = counts h; before = b; line = omega arith; standing = f }
 
 widen : (g : Guarantee) (h : HfscHistory) (more less soon late : ℕ) → less ≤ more → soon ≤ late → Anchored g h more soon → Anchored g h less late
@@ -65,7 +65,7 @@ kept g h sent latest d at len b x = record {
   base = x.base;
   before = omega (arith, x.before);
   line = (let one = sum_same (counts (Enqueued d at len ∷ h)) (counts h) (length g.curves) (λ c _. same c) in omega (arith, x.line));
-  standing = λ c. either_leaf (Stands g x.now (x.base c) c) (d == c) (after_kept at len (leaf h c)) (leaf h c)
+  standing = λ c. either_leaf (LeafStands g x.now (x.base c) c) (d == c) (after_kept at len (leaf h c)) (leaf h c)
       (λ _. kept_standing (curve_of g.curves c) g.until x.now (x.base c) at len (leaf h c) (omega (arith, x.before)) (x.standing c))
       (λ _. x.standing c);
 }
@@ -92,7 +92,7 @@ due g h sent latest d len start b n k e x = record {
   base = x.base;
   before = omega (arith, x.before);
   line = (let one = sum_one (counts h) (counts (Sent d len true start ∷ h)) (length g.curves) d (units len) n own other in omega (arith, x.line));
-  standing = each_leaf (λ c l. Stands g x.now (x.base c) c l) h d len true start
+  standing = each_leaf (λ c l. LeafStands g x.now (x.base c) c l) h d len true start
       (due_standing (curve_of g.curves d) g.until x.now (x.base d) len (leaf h d) k e (x.standing d)) (λ c _. x.standing c);
 }
   where
@@ -131,18 +131,18 @@ none_come (Some u) (Some v) c d t p e = grind (arith, nat_tests, p, e)
 
 -- by real time a head is sent whose deadline is past the moment
 late_reset : (g : Guarantee) (h : HfscHistory) (d len start : ℕ) → IsChosen g.curves h d len true start → has_come (head_deadline (curve_of g.curves d) (leaf h d)) g.until ≡ false
-    → (c : ℕ) → Stands g start (counts (Sent d len true start ∷ h) c) c (leaf (Sent d len true start ∷ h) c)
+    → (c : ℕ) → LeafStands g start (counts (Sent d len true start ∷ h) c) c (leaf (Sent d len true start ∷ h) c)
 late_reset g h d len start x e =
-    each_leaf (λ c l. Stands g start l.count c l) h d len true start
+    each_leaf (λ c l. LeafStands g start l.count c l) h d len true start
     (late (curve_of g.curves d) g.until start len (leaf h d) x.head e)
     (λ c n. passed_over (curve_of g.curves c) g.until start (leaf h c)
     (λ p. none_come (head_deadline (curve_of g.curves d) (leaf h d)) (head_deadline (curve_of g.curves c) (leaf h c)) d c g.until ((x.by_real_time refl).first c p n) e))
 
 -- a head is sent by share
 share_reset : (g : Guarantee) (h : HfscHistory) (d len start : ℕ) → IsChosen g.curves h d len false start
-    → (c : ℕ) → Stands g start (counts (Sent d len false start ∷ h) c) c (leaf (Sent d len false start ∷ h) c)
+    → (c : ℕ) → LeafStands g start (counts (Sent d len false start ∷ h) c) c (leaf (Sent d len false start ∷ h) c)
 share_reset g h d len start x =
-    each_leaf (λ c l. Stands g start l.count c l) h d len false start
+    each_leaf (λ c l. LeafStands g start l.count c l) h d len false start
     (shared (curve_of g.curves d) g.until start len (leaf h d) x.head (not_true (is_eligible (curve_of g.curves d) (leaf h d) start) (x.by_share refl d)))
     (λ c n. passed_over (curve_of g.curves c) g.until start (leaf h c) (λ p. absurd (x.by_share refl c p)))
 

@@ -9,3 +9,4 @@ pub mod Timing
 pub mod Tree
 pub mod Activity
 pub mod Picking
+pub mod Opened

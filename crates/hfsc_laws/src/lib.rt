@@ -22,9 +22,13 @@ pub fn packets_are_timely()
         → IsBusy rate curves h → AreChosen curves h → FitLink rate curves → IsTimely rate curves h }
 {}
 
+mod leaf_openings;
+mod opening_rows;
 mod pick;
 mod share;
 
+pub use leaf_openings::leaves_open_where_all_has_started;
+pub use opening_rows::worked_openings;
 pub use pick::computed_picks_are_picks;
 pub use share::{
     activity_is_that_of_children, classes_begin_at_their_activation, packets_make_their_path_active,

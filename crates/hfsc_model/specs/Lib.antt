@@ -8,3 +8,4 @@ pub mod Choice
 pub mod Link
 pub mod Timely
 pub mod Rows
+pub mod TimelyRows

@@ -21,6 +21,10 @@ ghost use Rattle.service_curve.specs.Curve.{curve, straight};
 
 use service_curve::Curve;
 
+mod timely;
+
+pub use timely::timely_at_the_bound;
+
 /// A class of HFSC: its parent, `None` for the root, its real-time curve, its link-sharing curve and its upper limit.
 #[derive(Clone, Copy, Debug, PartialEq, Eq)]
 pub struct HfscClass {

@@ -1,3 +1,4 @@
 pub mod Leasts
 pub mod Picks
 pub mod Times
+pub mod Policies

@@ -11,8 +11,12 @@ ghost use Rattle.hfsc_model.specs.Share.{virtual_time};
 ghost use Rattle.hfsc_policy.specs.Classes.{IsClassTree};
 ghost use Rattle.hfsc_order.specs.Order.{AreBehind, HaveSlopes, IsSharePick, NoneMayShare};
 
+mod one_leaf;
+mod one_leaf_rows;
 mod rows;
 
+pub use one_leaf::{one_leaf_is_one_queue, one_leaf_is_sent_by_share};
+pub use one_leaf_rows::worked_trees;
 pub use rows::worked_orders;
 
 /// The choice by share takes a leaf that waits and whose path is open, wherever there is one. On each level from the root down to

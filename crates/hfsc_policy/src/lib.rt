@@ -9,7 +9,7 @@
 
 ghost use Rattle.std.specs.Prelude.{◌≡◌, ◌≤◌, ◌<◌, ◌^◌, ℕ, List, IsTrue};
 ghost use Rattle.altq_model.specs.Busy.{IsBusy};
-ghost use Rattle.altq_model.specs.History.{Arrival, Event, Happened, bare, waiting};
+ghost use Rattle.altq_model.specs.History.{Arrival, Event, LabelledEvent, unlabelled, waiting};
 ghost use Rattle.altq_model.specs.Lawful.{AreRising, IsLawful, IsSteady, NeverWaits, SendsWhen};
 ghost use Rattle.altq_model.specs.Link.{HasLinkEnds};
 ghost use Rattle.altq_model.specs.Play.{AreDue};
@@ -58,8 +58,8 @@ pub fn leaves_are_timely()
         → IsOrderly (hfsc_policy cs answer) h → HasLinkEnds rate h → IsBusy (hfsc_policy cs answer) rate h
         → FitLink rate (reals cs) → IsTimely rate (reals cs) (hfsc_history h) }
     ensures plays { (cs : List HfscClass) (answer : Answering) (rate seed : ℕ) (arrived : List Arrival) → 0 < rate → IsClassTree cs
-        → AreSized arrived → (g : List Happened) → AreRising arrived → AreDue (hfsc_policy cs answer) rate seed arrived g
-        → FitLink rate (reals cs) → IsTimely rate (reals cs) (hfsc_history (bare g)) }
+        → AreSized arrived → (g : List LabelledEvent) → AreRising arrived → AreDue (hfsc_policy cs answer) rate seed arrived g
+        → FitLink rate (reals cs) → IsTimely rate (reals cs) (hfsc_history (unlabelled g)) }
 {}
 
 /// While at most 4,000,000 packets were kept, of at most 262,144 bytes each, the units sent of a class, by real time or in all,

@@ -7,7 +7,7 @@ use Rattle.hfsc_groups.specs.Node.{AreNew}
 use Rattle.hfsc_groups.proofs.New.{idle_in, new_node, parent_is}
 use Rattle.hfsc_groups.proofs.Opening.{active_is, waits_is}
 use Rattle.hfsc_share.specs.declared.Shares.{Shares}
-use Rattle.hfsc_share.specs.Shares.{StandsFor, IsNew}
+use Rattle.hfsc_share.specs.Shares.{Represents, NoneIsActive}
 
 nothing_active : (cs : List HfscClass) (c : ℕ) → active cs [] c ≡ false
 nothing_active cs c = go (active cs [] c) refl
@@ -19,7 +19,7 @@ nothing_active cs c = go (active cs [] c) refl
         absurd cc
     go false e = refl
 
-pub new_stands : (s : Shares) (cs : List HfscClass) → AreClasses cs → AreNew cs s.nodes.items → StandsFor s cs []
+pub new_stands : (s : Shares) (cs : List HfscClass) → AreClasses cs → AreNew cs s.nodes.items → Represents s cs []
 new_stands s cs classes new = record {
   classes = classes;
   count = new.count;
@@ -37,7 +37,7 @@ new_stands s cs classes new = record {
   arrivals = λ c. tt;
 }
 
-pub new_is : (s : Shares) (cs : List HfscClass) → AreNew cs s.nodes.items → s.woken ≡ 0 → IsNew cs s
+pub new_is : (s : Shares) (cs : List HfscClass) → AreNew cs s.nodes.items → s.woken ≡ 0 → NoneIsActive cs s
 new_is s cs new e = record {
   classes = new.count;
   parents = λ c. parent_is cs s.nodes.items c new;

@@ -27,7 +27,7 @@ use Rattle.hfsc_groups.proofs.Children.{Stand, child_node, in_list, key_opens}
 use Rattle.hfsc_groups.proofs.Lists.{ranked_low}
 use Rattle.hfsc_groups.proofs.Found.{outside_parent}
 use Rattle.hfsc_share.specs.declared.Shares.{Shares}
-use Rattle.hfsc_share.specs.Shares.{StandsFor, child_of, down, is_active_at, last_wake, not_before, pick_now, soonest_now}
+use Rattle.hfsc_share.specs.Shares.{Represents, child_of, down, is_active_at, last_wake, not_before, pick_now, soonest_now}
 use Rattle.hfsc_share.proofs.Starting.{child_in, in_filter, time_before}
 
 -- where all classes above a class are within their limits, a leaf below it may be served exactly where the class opens
@@ -295,7 +295,7 @@ child_picked cs h last now c nodes g t later s holds led o =
         ∙ ap (λ b. b && has_come (key_of (late_keys g.moments) e) now) (sym (in_list cs h last c nodes time_key g.times e s holds.times))
 
 -- what a value that stands for a history says of its nodes and groups
-pub stands_stand : (s : Shares) (cs : List HfscClass) (h : HfscHistory) (p : ℕ) → StandsFor s cs h → Stand cs h s.woken p s.nodes.items
+pub stands_stand : (s : Shares) (cs : List HfscClass) (h : HfscHistory) (p : ℕ) → Represents s cs h → Stand cs h s.woken p s.nodes.items
 stands_stand s cs h p stands = record {
   count = stands.count;
   parents = λ c. go c (slice_get s.nodes.items c) refl;
@@ -311,7 +311,7 @@ no_group [] i k e = absurd (omega arith)
 no_group (x ∷ xs) zero k e = absurd cc
 no_group (x ∷ xs) (suc i) k e = no_group xs i (omega arith) e
 
-pub down_is : (s : Shares) (cs : List HfscClass) (h : HfscHistory) (now : ℕ) → StandsFor s cs h → s.woken ≤ now → (levels c : ℕ)
+pub down_is : (s : Shares) (cs : List HfscClass) (h : HfscHistory) (now : ℕ) → Represents s cs h → s.woken ≤ now → (levels c : ℕ)
     → ((x : ℕ) → is_under cs x c ≡ true → (x ≡ c → ⊥) → is_within cs h now x ≡ true) → opens_under cs h now c ≡ true
     → down levels s.groups.items now c ≡ path_down levels cs h now c
 down_is s cs h now stands later zero c led o = refl
@@ -361,7 +361,7 @@ idle_closed cs h now c a = go (opens_under cs h now c) refl
     go true e = let x = opens_is cs h now c e in let yes = is_active cs h c x.one x.opens.waits in absurd cc
     go false e = refl
 
-pub root_active : (s : Shares) (cs : List HfscClass) (h : HfscHistory) → StandsFor s cs h → active cs h 0 ≡ is_active_at s 0
+pub root_active : (s : Shares) (cs : List HfscClass) (h : HfscHistory) → Represents s cs h → active cs h 0 ≡ is_active_at s 0
 root_active s cs h stands = go (slice_get s.nodes.items 0) refl
   where
     none : (ks : List HfscClass) → length ks ≡ 0 → active ks h 0 ≡ false
@@ -376,14 +376,14 @@ root_active s cs h stands = go (slice_get s.nodes.items 0) refl
     go None e = none cs (sym stands.count ∙ empty s.nodes.items e)
     go (Some x) e = (stands.each 0 x e).active
 
-root_opens : (s : Shares) (cs : List HfscClass) (h : HfscHistory) → StandsFor s cs h → is_active_at s 0 ≡ true → OpensAt cs h s.woken 0 (opens_in (slice_get s.nodes.items 0))
+root_opens : (s : Shares) (cs : List HfscClass) (h : HfscHistory) → Represents s cs h → is_active_at s 0 ≡ true → OpensAt cs h s.woken 0 (opens_in (slice_get s.nodes.items 0))
 root_opens s cs h stands a = go (slice_get s.nodes.items 0) refl a
   where
     go : (o : Option Node) → slice_get s.nodes.items 0 ≡ o → active_in o ≡ true → OpensAt cs h s.woken 0 (opens_in o)
     go None e b = absurd cc
     go (Some x) e b = (stands.each 0 x e).opens b
 
-pub pick_is : (s : Shares) (cs : List HfscClass) (h : HfscHistory) (now : ℕ) → StandsFor s cs h → last_wake s ≤ now → pick_now s now ≡ share_pick cs h now
+pub pick_is : (s : Shares) (cs : List HfscClass) (h : HfscHistory) (now : ℕ) → Represents s cs h → last_wake s ≤ now → pick_now s now ≡ share_pick cs h now
 pick_is s cs h now stands later = go (is_active_at s 0) refl
   where
     tree : IsTree cs
@@ -405,14 +405,14 @@ pick_is s cs h now stands later = go (is_active_at s 0) refl
     go false a = share false (root_shares cs h now tree ∙ idle_closed cs h now 0 (root_active s cs h stands ∙ a))
 
 -- the soonest moment
-none_soonest : (s : Shares) (cs : List HfscClass) (h : HfscHistory) → StandsFor s cs h → is_active_at s 0 ≡ false → IsSoonest cs h (last_wake s) None
+none_soonest : (s : Shares) (cs : List HfscClass) (h : HfscHistory) → Represents s cs h → is_active_at s 0 ≡ false → IsSoonest cs h (last_wake s) None
 none_soonest s cs h stands a = record {
   some = (λ e. absurd cc, λ e. let is = root_active s cs h stands in absurd cc);
   from = λ now later. root_shares cs h now stands.classes.tree ∙ idle_closed cs h now 0 (root_active s cs h stands ∙ a);
   later = tt;
 }
 
-some_soonest : (s : Shares) (cs : List HfscClass) (h : HfscHistory) (t : ℕ) → StandsFor s cs h → is_active_at s 0 ≡ true → opens_in (slice_get s.nodes.items 0) ≡ Some t
+some_soonest : (s : Shares) (cs : List HfscClass) (h : HfscHistory) (t : ℕ) → Represents s cs h → is_active_at s 0 ≡ true → opens_in (slice_get s.nodes.items 0) ≡ Some t
     → IsSoonest cs h (last_wake s) (Some (max s.woken t))
 some_soonest s cs h t stands a e = record {
   some = (λ f. root_active s cs h stands ∙ a, λ f. refl);
@@ -428,7 +428,7 @@ some_soonest s cs h t stands a e = record {
         go true f = grind (arith, nat_tests, f, later)
         go false f = grind (arith, nat_tests, f, later)
 
-pub soonest_is : (s : Shares) (cs : List HfscClass) (h : HfscHistory) → StandsFor s cs h → IsSoonest cs h (last_wake s) (soonest_now s)
+pub soonest_is : (s : Shares) (cs : List HfscClass) (h : HfscHistory) → Represents s cs h → IsSoonest cs h (last_wake s) (soonest_now s)
 soonest_is s cs h stands = go (is_active_at s 0) refl
   where
     open_case : is_active_at s 0 ≡ true → (o : Option ℕ) → opens_in (slice_get s.nodes.items 0) ≡ o → IsSoonest cs h (last_wake s) (not_before s.woken o)

@@ -32,7 +32,7 @@ use Rattle.hfsc_groups.proofs.Found.{IsGroup, class_is, group_of, limit_is, miss
 use Rattle.hfsc_groups.proofs.Children.{opens_at}
 use Rattle.hfsc_share.specs.declared.Shares.{Shares}
 use Rattle.hfsc_share.specs.Walk.{has_ranked, has_some, moment_of, start_below, start_of, IsLeafThat, IsOnWay, IsStep, Walks}
-use Rattle.hfsc_share.specs.Shares.{StandsFor, IsLeafAt, IsSameBut, classes_of, is_active_at, last_wake}
+use Rattle.hfsc_share.specs.Shares.{Represents, IsLeafAt, IsSameBut, classes_of, is_active_at, last_wake}
 use Rattle.hfsc_share.proofs.Off.{AllOff, Off, below_stands, kept_off, off_stands, sent_off}
 use Rattle.hfsc_share.proofs.Waking.{NodeHas, reopened_stands, stands_has, start_taken, woken_active, woken_child, woken_root}
 use Rattle.hfsc_share.proofs.Serving.{served_active, served_has}
@@ -240,7 +240,7 @@ at_begin cs h g last leaf nodes classes count small arrivals each off = record {
     number a b e = cc
 
 -- a leaf by value is a leaf
-leaf_is : (s : Shares) (cs : List HfscClass) (h : HfscHistory) (leaf : ℕ) → StandsFor s cs h → leaf < classes_of s → IsLeafAt s leaf → is_leaf cs leaf ≡ true
+leaf_is : (s : Shares) (cs : List HfscClass) (h : HfscHistory) (leaf : ℕ) → Represents s cs h → leaf < classes_of s → IsLeafAt s leaf → is_leaf cs leaf ≡ true
 leaf_is s cs h leaf stands low l =
     true_and (nat_lt leaf (length cs)) (not (is_parent cs leaf)) (let count = stands.count in grind (arith, nat_tests, low, count)) (ap not (go (is_parent cs leaf) refl))
   where
@@ -255,14 +255,14 @@ leaf_is s cs h leaf stands low l =
     go true e = let x = any_is (is_child cs leaf) 0 (length cs) e in absurd (child x.one (let to = x.to in omega arith) x.passes)
     go false e = refl
 
-active_at : (s : Shares) (cs : List HfscClass) (h : HfscHistory) (c : ℕ) (b : Bool) → StandsFor s cs h → c < classes_of s → is_active_at s c ≡ b → active cs h c ≡ b
+active_at : (s : Shares) (cs : List HfscClass) (h : HfscHistory) (c : ℕ) (b : Bool) → Represents s cs h → c < classes_of s → is_active_at s c ≡ b → active cs h c ≡ b
 active_at s cs h c b stands low e = go (slice_get s.nodes.items c) refl
   where
     go : (o : Option Node) → slice_get s.nodes.items c ≡ o → active cs h c ≡ b
     go None f = absurd (missing s.nodes.items c low f)
     go (Some x) f = (stands.each c x f).active ∙ sym (ap active_in f) ∙ e
 
-pub leaf_that : (s : Shares) (cs : List HfscClass) (h : HfscHistory) (leaf : ℕ) (b : Bool) → StandsFor s cs h → leaf < classes_of s → IsLeafAt s leaf → is_active_at s leaf ≡ b
+pub leaf_that : (s : Shares) (cs : List HfscClass) (h : HfscHistory) (leaf : ℕ) (b : Bool) → Represents s cs h → leaf < classes_of s → IsLeafAt s leaf → is_active_at s leaf ≡ b
     → IsLeafThat cs h leaf b
 leaf_that s cs h leaf b stands low l a = record { leaf_is = leaf_is s cs h leaf stands low l; waits_is = active_at s cs h leaf b stands low a }
 
@@ -277,7 +277,7 @@ later_last cs h was last c x k s = record {
   opens = λ a. let o = s.opens a in record { some = o.some; from = λ now later. o.from now (omega arith) };
 }
 
-pub wake_begins : (s : Shares) (cs : List HfscClass) (h : HfscHistory) (leaf at len : ℕ) → StandsFor s cs h → last_wake s ≤ at → AreSmall cs (Enqueued leaf at len ∷ h)
+pub wake_begins : (s : Shares) (cs : List HfscClass) (h : HfscHistory) (leaf at len : ℕ) → Represents s cs h → last_wake s ≤ at → AreSmall cs (Enqueued leaf at len ∷ h)
     → Walks cs h (Enqueued leaf at len ∷ h) at leaf (Some leaf) s.nodes.items
 wake_begins s cs h leaf at len stands later small =
     at_begin cs h (Enqueued leaf at len ∷ h) at leaf s.nodes.items stands.classes stands.count small arrivals
@@ -293,14 +293,14 @@ wake_begins s cs h leaf at len stands later small =
         go true = (omega arith, rest)
         go false = rest
 
-pub service_begins : (s : Shares) (cs : List HfscClass) (h : HfscHistory) (leaf len : ℕ) (real : Bool) (start : ℕ) → StandsFor s cs h → AreSmall cs (Sent leaf len real start ∷ h)
+pub service_begins : (s : Shares) (cs : List HfscClass) (h : HfscHistory) (leaf len : ℕ) (real : Bool) (start : ℕ) → Represents s cs h → AreSmall cs (Sent leaf len real start ∷ h)
     → Walks cs h (Sent leaf len real start ∷ h) (last_wake s) leaf (Some leaf) s.nodes.items
 service_begins s cs h leaf len real start stands small =
     at_begin cs h (Sent leaf len real start ∷ h) (last_wake s) leaf s.nodes.items stands.classes stands.count small stands.arrivals stands.each
     (λ c e. sent_off cs h leaf len real start c e)
 
 -- and ends above the root
-pub walk_ends : (s : Shares) (cs : List HfscClass) (h g : HfscHistory) (last leaf : ℕ) → Walks cs h g last leaf None s.nodes.items → last_wake s ≡ last → StandsFor s cs g
+pub walk_ends : (s : Shares) (cs : List HfscClass) (h g : HfscHistory) (last leaf : ℕ) → Walks cs h g last leaf None s.nodes.items → last_wake s ≡ last → Represents s cs g
 walk_ends s cs h g last leaf w e = record {
   classes = w.classes;
   count = w.count;
@@ -316,7 +316,7 @@ waits_push [] w = refl
 waits_push (x ∷ xs) w = refl
 
 -- a packet kept where another waits changes nothing
-pub kept_more : (s : Shares) (cs : List HfscClass) (h : HfscHistory) (class at len : ℕ) → StandsFor s cs h → waits_in h class ≡ true → StandsFor s cs (Enqueued class at len ∷ h)
+pub kept_more : (s : Shares) (cs : List HfscClass) (h : HfscHistory) (class at len : ℕ) → Represents s cs h → waits_in h class ≡ true → Represents s cs (Enqueued class at len ∷ h)
 kept_more s cs h class at len stands waits = record {
   classes = stands.classes;
   count = stands.count;

@@ -30,7 +30,7 @@ abbrev pub IsLeafAt : Shares → ℕ → Type 0
 IsLeafAt s c = (d : ℕ) → parent_at s d ≡ Some c → ⊥
 
 -- it has the tree of these classes, of which none is active
-pub record IsNew (cs : List HfscClass) (s : Shares) : Type 0 where
+pub record NoneIsActive (cs : List HfscClass) (s : Shares) : Type 0 where
   pub classes : classes_of s ≡ length cs
   pub parents : (c : ℕ) → parent_at s c ≡ (class_of cs c).parent
   pub idle : (c : ℕ) → is_active_at s c ≡ false
@@ -43,7 +43,7 @@ pub record IsSameBut (leaf : ℕ) (old new : Shares) : Type 0 where
   pub others : (c : ℕ) → IsLeafAt old c → (c ≡ leaf → ⊥) → is_active_at new c ≡ is_active_at old c
 
 -- each class has what it has after the history
-pub record StandsFor (s : Shares) (cs : List HfscClass) (h : HfscHistory) : Type 0 where
+pub record Represents (s : Shares) (cs : List HfscClass) (h : HfscHistory) : Type 0 where
   pub classes : AreClasses cs
   pub count : length s.nodes.items ≡ length cs
   pub each : (c : ℕ) (x : Node) → slice_get s.nodes.items c ≡ Some x → NodeStands cs h s.woken c x

@@ -47,14 +47,14 @@ pub struct Shares {
 }
 
 impl Shares {
-    ghost use Rattle.hfsc_share.specs.Shares.{StandsFor, IsNew, IsSameBut, IsLeafAt, classes_of, down, is_active_at, last_wake, parent_at, pick_now, soonest_now, order_at};
+    ghost use Rattle.hfsc_share.specs.Shares.{Represents, NoneIsActive, IsSameBut, IsLeafAt, classes_of, down, is_active_at, last_wake, parent_at, pick_now, soonest_now, order_at};
 
     /// The classes without a packet, at most 256.
     pub fn build(alloc: Global, classes: &[HfscClass]) -> Result<Shares, NoMemory>
         requires count { length classes.now ≤ 256 }
         requires classes { AreClasses classes.now }
-        ensures stands { IfOk result (λ s. StandsFor s classes.now []) }
-        ensures new { IfOk result (IsNew classes.now) }
+        ensures stands { IfOk result (λ s. Represents s classes.now []) }
+        ensures new { IfOk result (NoneIsActive classes.now) }
     {
         let nodes = nodes_of(alloc, classes)?;
         let groups = groups_of(alloc, classes)?;
@@ -74,8 +74,8 @@ impl Shares {
         requires leaf { IsLeafAt self.old leaf }
         requires idle { is_active_at self.old leaf ≡ false }
         requires later { last_wake self.old ≤ at }
-        ensures stands { (cs : List HfscClass) (h : HfscHistory) (len : ℕ) → StandsFor self.old cs h
-            → AreSmall cs (Enqueued leaf at len ∷ h) → StandsFor self.new cs (Enqueued leaf at len ∷ h) }
+        ensures stands { (cs : List HfscClass) (h : HfscHistory) (len : ℕ) → Represents self.old cs h
+            → AreSmall cs (Enqueued leaf at len ∷ h) → Represents self.new cs (Enqueued leaf at len ∷ h) }
         ensures woken { last_wake self.new ≡ at }
         ensures active { is_active_at self.new leaf ≡ true }
         ensures others { IsSameBut leaf self.old self.new }
@@ -93,9 +93,9 @@ impl Shares {
         requires class { leaf < classes_of self.old }
         requires leaf { IsLeafAt self.old leaf }
         requires waits { is_active_at self.old leaf ≡ true }
-        ensures stands { (cs : List HfscClass) (h : HfscHistory) (real : Bool) (start : ℕ) → StandsFor self.old cs h
+        ensures stands { (cs : List HfscClass) (h : HfscHistory) (real : Bool) (start : ℕ) → Represents self.old cs h
             → waits_in (Sent leaf len real start ∷ h) leaf ≡ not empty
-            → AreSmall cs (Sent leaf len real start ∷ h) → StandsFor self.new cs (Sent leaf len real start ∷ h) }
+            → AreSmall cs (Sent leaf len real start ∷ h) → Represents self.new cs (Sent leaf len real start ∷ h) }
         ensures woken { last_wake self.new ≡ last_wake self.old }
         ensures active { is_active_at self.new leaf ≡ not empty }
         ensures others { IsSameBut leaf self.old self.new }
@@ -113,7 +113,7 @@ impl Shares {
     /// that order up to the first that may.
     #[inline(always)]
     pub fn pick(&self, now: u64) -> Option<u32>
-        ensures pick { (cs : List HfscClass) (h : HfscHistory) → StandsFor self.now cs h → last_wake self.now ≤ now
+        ensures pick { (cs : List HfscClass) (h : HfscHistory) → Represents self.now cs h → last_wake self.now ≤ now
             → result ≡ share_pick cs h now }
         ensures is { result ≡ pick_now self.now now }
     {
@@ -123,7 +123,7 @@ impl Shares {
     /// The least moment, not before the last wake, from which the limits let some active leaf be served. `None` comes
     /// exactly where no leaf is active. Constant time.
     pub fn soonest(&self) -> Option<u128>
-        ensures least { (cs : List HfscClass) (h : HfscHistory) → StandsFor self.now cs h → IsSoonest cs h (last_wake self.now) result }
+        ensures least { (cs : List HfscClass) (h : HfscHistory) → Represents self.now cs h → IsSoonest cs h (last_wake self.now) result }
         ensures is { result ≡ soonest_now self.now }
     {
         self.soonest_moment()
@@ -132,7 +132,7 @@ impl Shares {
     /// The active children of a class in the order of their virtual times, a tie in the order of the file. Constant time.
     pub fn ranked(&self, parent: u32) -> &[u32]
         requires { parent < classes_of self.now }
-        ensures order { (cs : List HfscClass) (h : HfscHistory) → StandsFor self.now cs h
+        ensures order { (cs : List HfscClass) (h : HfscHistory) → Represents self.now cs h
             → IsOrderOf (λ c. Some (virtual_time cs h c)) (λ c. is_child cs parent c && active cs h c) result.now }
         ensures is { result.now ≡ order_at self.now parent }
     {

@@ -10,7 +10,7 @@ use Rattle.pcap_files.specs.declared.reader.Reader.{Reader}
 use Rattle.pcap_files.specs.declared.record.Found.{Found}
 use Rattle.pcap_files.specs.declared.record.Record.{Record as Answer}
 use Rattle.pcap_files.specs.Ahead.{TookSome}
-use Rattle.pcap_files.specs.Reading.{Answers, IsHeadFault, Shows, StandsFor, Told, told_by, told_of}
+use Rattle.pcap_files.specs.Reading.{Answers, IsHeadFault, Shows, Represents, RecordTold, told_by, told_of}
 use Rattle.pcap_files.proofs.ReaderLemmas.{took_unchanged}
 use Rattle.play_base.specs.View.{View, ReadFault, Took, Unchanged}
 use Rattle.play_base.proofs.ViewLaws.{rose_before, rose_later, took_more, took_nothing}
@@ -56,13 +56,13 @@ shown_same a n r s = rw (s.stamp, s.len, s.bytes) refl
 -- one more record is read
 pub read_more : (u v : View) (old new : Reader) (bytes : List ℕ) (shown after : List Shown) (o : Option Found) (f : Found) (a : Answer)
     → IfSome o (λ x. Answers u v old new (told_by new x)) → o ≡ Some f → told_of a ≡ told_by new f → after ≡ shown ++ shown_by a ∷ []
-    → ((records : List Record) × StandsFor u old bytes records × (shown ≡ map shown_of records))
-    → (records : List Record) × StandsFor v new bytes records × (after ≡ map shown_of records)
+    → ((records : List Record) × Represents u old bytes records × (shown ≡ map shown_of records))
+    → (records : List Record) × Represents v new bytes records × (after ≡ map shown_of records)
 read_more u v old new bytes shown after o f a answered is lent grown h =
     let W : Option Found → Type 0 = λ x. IfSome x (λ y. Answers u v old new (told_by new y)) in
     let answer : Answers u v old new (told_by new f) = subst W is answered in
     let x = answer bytes h.0 h.1 in
-    let P : Told → Type 0 = λ t. Shows t (length h.0) x.0 in
+    let P : RecordTold → Type 0 = λ t. Shows t (length h.0) x.0 in
     let shows : Shows (told_of a) (length h.0) x.0 = subst P (sym lent) x.1 in (
       h.0 ++ x.0 ∷ [],
       x.2,

@@ -1,6 +1,6 @@
 // The records of a capture, all in one piece of memory.
 ghost use Rattle.std.specs.Prelude.{◌≡◌, ◌<◌, ◌≤◌, ◌+◌, ◌++◌, ◌∷◌, [], IfSome, OnOk, drop, length, option_map, slice_get, take};
-ghost use Rattle.input_files.specs.Held.{IsHeld, shown_at, shown_in};
+ghost use Rattle.input_files.specs.Held.{IsHeldRecord, shown_at, shown_in};
 ghost use Rattle.input_files.specs.Records.{shown_by};
 
 use pcap_files::Record;
@@ -10,7 +10,7 @@ use std::marker::Model;
 
 // A record, whose captured bytes stand at a place of all bytes.
 #[derive(Clone, Copy)]
-struct Held {
+struct HeldRecord {
     stamp: u64,
     from: usize,
     len: u32,
@@ -25,10 +25,10 @@ fn part(bytes: &[u8], from: usize, count: usize) -> &[u8]
     &bytes[from..from + count]
 }
 
-impl Held {
+impl HeldRecord {
     // The record, among the bytes of all.
     fn seen(self, bytes: &[u8]) -> Seen<'_>
-        requires { IsHeld bytes.now self }
+        requires { IsHeldRecord bytes.now self }
         ensures value { shown_in result ≡ shown_at bytes.now self }
         ensures some { 0 < result.len }
         ensures most { result.len ≤ 262144 }
@@ -56,7 +56,7 @@ pub struct Seen<'a> {
 #[derive(Drop)]
 pub struct Records {
     bytes: Vec<u8>,
-    held: Vec<Held>,
+    held: Vec<HeldRecord>,
 }
 
 impl Model for Records {
@@ -73,7 +73,7 @@ impl Model for Records {
 }
 
 impl Records {
-    /// No record. Takes no memory.
+    /// No record. Does not allocate.
     pub fn new(alloc: Global) -> Records
         ensures { result ≡ [] }
     {
@@ -90,7 +90,7 @@ impl Records {
         let bytes = found.bytes;
         let from = self.bytes.len();
         self.bytes.extend_from_slice(bytes)?;
-        self.held.push(Held {
+        self.held.push(HeldRecord {
             stamp: found.stamp,
             from,
             len: found.len,
@@ -99,14 +99,14 @@ impl Records {
         Ok(())
     }
 
-    /// How many records there are. Takes no memory, in constant time.
+    /// How many records there are. Does not allocate, in constant time.
     pub fn len(&self) -> usize
         ensures { result ≡ length self.now }
     {
         self.held.len()
     }
 
-    /// The record at a place, from 0; None exactly where there is none. Takes no memory, in constant time.
+    /// The record at a place, from 0; None exactly where there is none. Does not allocate, in constant time.
     pub fn get(&self, place: usize) -> Option<Seen<'_>>
         ensures value { option_map shown_in result ≡ slice_get self.now place }
         ensures some { IfSome result (λ seen. 0 < seen.len) }

@@ -10,7 +10,7 @@ use Rattle.conf_tree.specs.Conditioners.{meters}
 use Rattle.conf_tree.specs.declared.class.Class.{Class}
 use Rattle.marked_files.specs.Metering.{conditioners_from}
 use Rattle.traffic_marks.specs.Marked.{Conditioner, marked, marked_frames, with_frames}
-use Rattle.traffic_marks.proofs.Lengths.{Held, held}
+use Rattle.traffic_marks.proofs.Lengths.{RecordsHeld, held}
 use Rattle.traffic_meter.specs.declared.rule.MeterRule.{MeterRule}
 
 or_second : (a b : Bool) → (a || b) ≡ false → b ≡ false
@@ -29,7 +29,7 @@ none_from class (c ∷ classes) h =
     none_first c.meter more class (meters classes) h (none_from (class + 1) classes (or_second (is_some c.meter) more h))
 
 -- the records' own frames in their places
-own_frames : (place : List ℕ → Placed) (rs : List Record) (latest : ℕ) (earlier : List Captured) (bytes : List ℕ) → Held rs bytes
+own_frames : (place : List ℕ → Placed) (rs : List Record) (latest : ℕ) (earlier : List Captured) (bytes : List ℕ) → RecordsHeld rs bytes
     → with_frames (marked_frames [] earlier (arrivals_from place latest rs)) bytes ≡ bytes
 own_frames place [] latest earlier bytes h = refl
 own_frames place (r ∷ rs) latest earlier bytes h =

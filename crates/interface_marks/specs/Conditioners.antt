@@ -6,7 +6,7 @@ use Rattle.conf_tree.specs.declared.interface.Interface.{Interface}
 use Rattle.frame_classes.specs.Frames.{Classes, place_in, placed_by}
 use Rattle.marked_files.specs.Markings.{Marking, given}
 use Rattle.marked_files.specs.Courses.{conditioning}
-use Rattle.marked_files.specs.Standing.{Stands, Waits}
+use Rattle.marked_files.specs.Standing.{IsAtRecordEnd, Waits}
 use Rattle.traffic_marks.specs.Marked.{Conditioning, marked}
 
 -- the classes of its frames, and the meter of each class that has a conditioner
@@ -27,6 +27,6 @@ Marks i first m = (left : List ℕ) → given placed_by m left ≡ marked_in i (
 
 -- it has taken these first bytes of a capture and given none; where they are fewer than a head has, it waits for more
 pub record Begins (i : Interface) (first : List ℕ) (m : Marking Classes) : Type 0 where
-  pub stands : Stands placed_by (conditioning_of i) first [] m
+  pub stands : IsAtRecordEnd placed_by (conditioning_of i) first [] m
   pub given : length m.held.ready ≡ 0
   pub waits : length first < 24 → Waits m

@@ -10,7 +10,7 @@ use marked_files::Marker;
 use play_base::NoMemory;
 use std::alloc::Global;
 
-/// Whether a class of an interface has a conditioner. At most 256 steps; takes no memory.
+/// Whether a class of an interface has a conditioner. At most 256 steps; does not allocate.
 pub fn is_conditioned(interface: &Interface) -> bool
     ensures { result ≡ is_conditioned interface.now }
 {

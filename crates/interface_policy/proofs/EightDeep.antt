@@ -7,8 +7,8 @@ use Rattle.conf_tree.specs.Family.{IsOnLevel, root, below}
 use Rattle.conf_laws.specs.Fit.{IsInterface}
 use Rattle.cbq_model.specs.declared.CbqClass.{CbqClass}
 use Rattle.cbq_model.specs.Tree.{class_of, lender_of, lenders, no_class, path}
-use Rattle.cbq_laws.specs.Ways.{IsEightDeep, IsWay, IsWayOfLoans}
-use Rattle.cbq_laws.proofs.WholeWays.{whole_loans, whole_way}
+use Rattle.cbq_model.specs.Ways.{IsEightDeep, IsWay, IsWayOfLoans}
+use Rattle.cbq_model.proofs.WholeWays.{whole_loans, whole_way}
 use Rattle.interface_policy.specs.Classes.{cbq_class, cbq_classes}
 use Rattle.interface_policy.proofs.Numbers.{earlier_parents}
 use Rattle.interface_policy.proofs.Places.{by_place}

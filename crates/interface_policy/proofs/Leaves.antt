@@ -12,7 +12,7 @@ use Rattle.hfsc_model.specs.RealTime.{curve_of}
 use Rattle.hfsc_model.specs.Tree.{is_child as is_hfsc_child, is_leaf as is_hfsc_leaf, is_number, is_parent, reals}
 use Rattle.hfsc_laws.proofs.Tree.{same_truth, is_any}
 use Rattle.altq_model.specs.Play.{IsOneOf}
-use Rattle.hfsc_one_leaf.specs.Queue.{IsOneQueue}
+use Rattle.hfsc_order.specs.Queue.{IsOneQueue}
 use Rattle.hfsc_policy.proofs.Lawful.{one_leaf}
 use Rattle.hfsc_policy.proofs.Offers.{leaf_below}
 use Rattle.hfsc_policy.specs.Classes.{HaveNoLimits, leaves}

@@ -1,7 +1,7 @@
 -- The policy of an interface is lawful, and its plays keep what it promises.
 use Rattle.std.proofs.Common.{◌≡◌, ◌≤◌, ◌<◌, ◌++◌, ℕ, zero, suc, false, List, [], ◌∷◌, Some, refl, ap, subst, arith}
 use Rattle.std.specs.Prelude.{slice_get}
-use Rattle.altq_model.specs.History.{Arrival, Event, Happened, Offered, Sent, Sending, bare}
+use Rattle.altq_model.specs.History.{Arrival, Event, LabelledEvent, Offered, Sent, Sending, unlabelled}
 use Rattle.altq_model.specs.Lawful.{AreHeld, AreRising, IsLawful}
 use Rattle.altq_model.specs.Play.{AreDue, Policy}
 use Rattle.altq_model.specs.Policies.{Answering}
@@ -45,7 +45,7 @@ pub policies_are_lawful : (i : Interface) → IsInterface i → IsLawful (policy
 policies_are_lawful i fit = lawful_by i.kind i fit refl
 
 -- a play of an interface, of this kind
-record IsPlayed (k : Kind) (i : Interface) (seed : ℕ) (arrived : List Arrival) (g : List Happened) : Type 0 where
+record IsPlayed (k : Kind) (i : Interface) (seed : ℕ) (arrived : List Arrival) (g : List LabelledEvent) : Type 0 where
   fit : IsInterface i
   kind : i.kind ≡ k
   rising : AreRising arrived
@@ -53,7 +53,7 @@ record IsPlayed (k : Kind) (i : Interface) (seed : ℕ) (arrived : List Arrival)
   held : AreHeld (policy_by k i) arrived
   due : AreDue (policy_by k i) i.rate seed arrived g
 
-played_as : (k : Kind) (i : Interface) (seed : ℕ) (arrived : List Arrival) (g : List Happened) → IsInterface i → i.kind ≡ k → AreRising arrived
+played_as : (k : Kind) (i : Interface) (seed : ℕ) (arrived : List Arrival) (g : List LabelledEvent) → IsInterface i → i.kind ≡ k → AreRising arrived
     → AreSized arrived → AreHeld (policy_of i) arrived → AreDue (policy_of i) i.rate seed arrived g → IsPlayed k i seed arrived g
 played_as k i seed arrived g fit e rising sized held due =
     let is : policy_of i ≡ policy_by k i = ap (λ (x : Kind). policy_by x i) e in record {
@@ -65,7 +65,7 @@ played_as k i seed arrived g fit e rising sized held due =
       due = subst (λ (p : Policy). AreDue p i.rate seed arrived g) is due;
     }
 
-keeps_hfsc : (i : Interface) (seed : ℕ) (arrived : List Arrival) (g : List Happened) → IsPlayed Hfsc i seed arrived g → KeepsHfsc i arrived g
+keeps_hfsc : (i : Interface) (seed : ℕ) (arrived : List Arrival) (g : List LabelledEvent) → IsPlayed Hfsc i seed arrived g → KeepsHfsc i arrived g
 keeps_hfsc i seed arrived g p =
     let cs : List HfscClass = hfsc_classes i.classes in
     let answer : Answering = answering_of i in
@@ -73,7 +73,7 @@ keeps_hfsc i seed arrived g p =
     let some = some_rate i p.fit in record {
       never_idles = λ none.
           never_idles (hfsc_policy cs answer) i.rate seed arrived g some (lawful cs answer tree) (never_waits cs answer none) p.rising p.held p.due;
-      ends = their_ends i.rate (bare g) some (due_laws (hfsc_policy cs answer) i.rate seed arrived g some (lawful cs answer tree) p.rising p.due).ends;
+      ends = their_ends i.rate (unlabelled g) some (due_laws (hfsc_policy cs answer) i.rate seed arrived g some (lawful cs answer tree) p.rising p.due).ends;
       timely = λ fits. play_timely cs answer i.rate seed arrived some tree p.sized g p.rising p.due (fit_link i fits);
     }
 
@@ -100,13 +100,13 @@ own_rate i c fit e below =
     let is : (class_of (cbq_classes i.classes) c).rate ≡ x.class.rate = ap (λ (k : CbqClass). k.rate) x.is in
     omega (arith, least, is)
 
-capped : (i : Interface) (seed : ℕ) (arrived : List Arrival) (g : List Happened) (c : ℕ) (last : Sending) (between : List Event)
-    (first : Sending) → IsPlayed Cbq i seed arrived g → IsOwnStretch (cbq_classes i.classes) c (bare g) last between first
+capped : (i : Interface) (seed : ℕ) (arrived : List Arrival) (g : List LabelledEvent) (c : ℕ) (last : Sending) (between : List Event)
+    (first : Sending) → IsPlayed Cbq i seed arrived g → IsOwnStretch (cbq_classes i.classes) c (unlabelled g) last between first
     → KeepsItsRate (cbq_classes i.classes) c last between first
 capped i seed arrived g c last between first p s =
     let cs : List CbqClass = cbq_classes i.classes in
     let some = some_rate i p.fit in
-    let all : AreSendings cs i.rate (bare g) = played cs i.rate seed (answering_of i) arrived g some p.rising p.due in
+    let all : AreSendings cs i.rate (unlabelled g) = played cs i.rate seed (answering_of i) arrived g some p.rising p.due in
     let here : List Event = Sent last ∷ between ++ Sent first ∷ s.before in
     keeps_its_rate cs i.rate c last between first s.before some (own_rate i c p.fit p.kind s.bottom.below) (record {
       sendings = sendings_before cs i.rate s.after here (subst (λ (h : List Event). AreSendings cs i.rate h) s.all all);
@@ -116,7 +116,7 @@ capped i seed arrived g c last between first p s =
       own = s.own;
     })
 
-pub plays_keep_promises : (i : Interface) → IsInterface i → (seed : ℕ) (arrived : List Arrival) (g : List Happened) → AreRising arrived
+pub plays_keep_promises : (i : Interface) → IsInterface i → (seed : ℕ) (arrived : List Arrival) (g : List LabelledEvent) → AreRising arrived
     → AreSized arrived → AreHeld (policy_of i) arrived → AreDue (policy_of i) i.rate seed arrived g → KeepsPromises i arrived g
 plays_keep_promises i fit seed arrived g rising sized held due = record {
   hfsc = λ e. keeps_hfsc i seed arrived g (played_as Hfsc i seed arrived g fit e rising sized held due);

@@ -1,6 +1,6 @@
 -- What a play needs of an interface, and what it may promise of it.
 use Rattle.std.specs.Prelude.{◌≡◌, ◌↔◌, ℕ, true, List, Some, slice_get}
-use Rattle.altq_model.specs.History.{Arrival, Happened}
+use Rattle.altq_model.specs.History.{Arrival, LabelledEvent}
 use Rattle.altq_model.specs.Lawful.{AreHeld, AreRising, IsLawful, IsOneOf}
 use Rattle.altq_model.specs.Play.{AreDue}
 use Rattle.conf_laws.specs.Fit.{IsInterface}
@@ -10,7 +10,7 @@ use Rattle.conf_tree.specs.Family.{is_queue_class}
 use Rattle.hfsc_model.specs.RealTime.{is_zero}
 use Rattle.hfsc_policy.specs.Heads.{AreSized}
 use Rattle.cbq_model.specs.Tree.{class_of, lender_of, lenders, path}
-use Rattle.cbq_laws.specs.Ways.{IsWay, IsWayOfLoans}
+use Rattle.cbq_model.specs.Ways.{IsWay, IsWayOfLoans}
 use Rattle.service_curve.specs.declared.Curve.{Curve}
 use Rattle.service_curve.specs.Curve.{amount}
 use Rattle.play_text.specs.Names.{HasClass}
@@ -32,7 +32,7 @@ QueueClassesAreNamed = (i : Interface) (c : ℕ) → is_queue_class i.kind i.cla
 -- the first events of each play of it keep what it promises, however many
 abbrev pub PlaysKeepPromises : Type 0
 PlaysKeepPromises =
-    (i : Interface) → IsInterface i → (seed : ℕ) (arrived : List Arrival) (g : List Happened) → AreRising arrived → AreSized arrived
+    (i : Interface) → IsInterface i → (seed : ℕ) (arrived : List Arrival) (g : List LabelledEvent) → AreRising arrived → AreSized arrived
     → AreHeld (policy_of i) arrived → AreDue (policy_of i) i.rate seed arrived g → KeepsPromises i arrived g
 
 -- CBQ's walk over 8 levels from a class goes on up to the root, and its walk over those that may lend to the class up to the last one

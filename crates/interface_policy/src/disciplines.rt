@@ -3,7 +3,7 @@ ghost use Rattle.std.specs.Prelude.{◌≡◌, [], IfOk};
 ghost use Rattle.conf_laws.specs.Fit.{IsInterface};
 ghost use Rattle.conf_tree.specs.declared.interface.Kind.TheVariants as kind;
 ghost use Rattle.discipline.specs.Laws.{HasRate};
-ghost use Rattle.hfsc_one_leaf.specs.Queue.{IsOneQueue};
+ghost use Rattle.hfsc_order.specs.Queue.{IsOneQueue};
 ghost use Rattle.interface_policy.specs.Classes.{hfsc_classes};
 ghost use Rattle.interface_policy.specs.Policy.{policy_of};
 
@@ -13,7 +13,7 @@ use cbq_rounds::Cbq;
 use conf_tree::Interface;
 use discipline::Discipline;
 use hfsc_core::Hfsc;
-use hfsc_one_leaf::one_leaf_is_one_queue;
+use hfsc_order::one_leaf_is_one_queue;
 use one_queue::OneQueue;
 use play_base::NoMemory;
 use rio_precedence::AnyQueue;
@@ -24,9 +24,9 @@ use std::alloc::Global;
 pub fn hfsc_of(alloc: Global, interface: &Interface) -> Result<Hfsc<AnyQueue>, NoMemory>
     requires fit { IsInterface interface.now }
     requires kind { interface.now.kind ≡ kind.Hfsc }
-    ensures empty { IfOk result (λ d. ⟦<Hfsc<AnyQueue> as Discipline>⟧.stands d []) }
-    ensures policy { IfOk result (λ d. ⟦<Hfsc<AnyQueue> as Discipline>⟧.policy d ≡ policy_of interface.now) }
-    ensures rate { IfOk result (λ d. HasRate (⟦<Hfsc<AnyQueue> as Discipline>⟧.link_rate d) interface.now.rate) }
+    ensures empty { IfOk result (λ d. (⟦<Hfsc<AnyQueue> as Discipline>⟧.view d).represents []) }
+    ensures policy { IfOk result (λ d. (⟦<Hfsc<AnyQueue> as Discipline>⟧.view d).policy ≡ policy_of interface.now) }
+    ensures rate { IfOk result (λ d. HasRate (⟦<Hfsc<AnyQueue> as Discipline>⟧.view d).link_rate interface.now.rate) }
 {
     let classes = hfsc_classes(alloc, interface.classes.as_slice())?;
     let queues = queues_of(alloc, interface.classes.as_slice(), interface.rate)?;
@@ -42,9 +42,9 @@ pub fn one_queue_of(
     requires fit { IsInterface interface.now }
     requires kind { interface.now.kind ≡ kind.Hfsc }
     requires one { IsOneQueue (hfsc_classes interface.now.classes) class }
-    ensures empty { IfOk result (λ d. ⟦<OneQueue<AnyQueue> as Discipline>⟧.stands d []) }
-    ensures policy { IfOk result (λ d. ⟦<OneQueue<AnyQueue> as Discipline>⟧.policy d ≡ policy_of interface.now) }
-    ensures rate { IfOk result (λ d. HasRate (⟦<OneQueue<AnyQueue> as Discipline>⟧.link_rate d) interface.now.rate) }
+    ensures empty { IfOk result (λ d. (⟦<OneQueue<AnyQueue> as Discipline>⟧.view d).represents []) }
+    ensures policy { IfOk result (λ d. (⟦<OneQueue<AnyQueue> as Discipline>⟧.view d).policy ≡ policy_of interface.now) }
+    ensures rate { IfOk result (λ d. HasRate (⟦<OneQueue<AnyQueue> as Discipline>⟧.view d).link_rate interface.now.rate) }
 {
     one_leaf_is_one_queue();
     let queues = queues_of(alloc, interface.classes.as_slice(), interface.rate)?;
@@ -55,9 +55,9 @@ pub fn one_queue_of(
 pub fn cbq_of(alloc: Global, interface: &Interface) -> Result<Cbq<AnyQueue>, NoMemory>
     requires fit { IsInterface interface.now }
     requires kind { interface.now.kind ≡ kind.Cbq }
-    ensures empty { IfOk result (λ d. ⟦<Cbq<AnyQueue> as Discipline>⟧.stands d []) }
-    ensures policy { IfOk result (λ d. ⟦<Cbq<AnyQueue> as Discipline>⟧.policy d ≡ policy_of interface.now) }
-    ensures rate { IfOk result (λ d. HasRate (⟦<Cbq<AnyQueue> as Discipline>⟧.link_rate d) interface.now.rate) }
+    ensures empty { IfOk result (λ d. (⟦<Cbq<AnyQueue> as Discipline>⟧.view d).represents []) }
+    ensures policy { IfOk result (λ d. (⟦<Cbq<AnyQueue> as Discipline>⟧.view d).policy ≡ policy_of interface.now) }
+    ensures rate { IfOk result (λ d. HasRate (⟦<Cbq<AnyQueue> as Discipline>⟧.view d).link_rate interface.now.rate) }
 {
     let classes = cbq_classes(alloc, interface.classes.as_slice())?;
     let queues = queues_of(alloc, interface.classes.as_slice(), interface.rate)?;

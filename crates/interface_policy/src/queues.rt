@@ -1,6 +1,6 @@
 // The queues of the classes.
 ghost use Rattle.std.specs.Prelude.{◌≡◌, ◌≤◌, [], All, IfOk, length, map};
-ghost use Rattle.class_rows.specs.Rows.{IsNew};
+ghost use Rattle.class_rows.specs.Rows.{IsNewQueue};
 ghost use Rattle.conf_tree.specs.declared.class.Class.{Class};
 ghost use Rattle.rio_precedence.specs.Any.{most_of, stands_of, says_of};
 ghost use Rattle.interface_policy.specs.Policy.{queue_says};
@@ -32,7 +32,7 @@ pub fn queues_of(alloc: Global, classes: &[Class], rate: u64) -> Result<Vec<AnyQ
     requires limits { All (λ (c : Class). (1 ≤ c.limit) × (c.limit ≤ 10000)) classes.now }
     ensures says { IfOk result (λ queues. map says_of queues.items ≡ map (queue_says rate) classes.now) }
     ensures count { IfOk result (λ queues. length queues.items ≡ length classes.now) }
-    ensures new { IfOk result (λ queues. All (IsNew stands_of most_of) queues.items) }
+    ensures new { IfOk result (λ queues. All (IsNewQueue stands_of most_of) queues.items) }
 {
     let mut queues = Vec::with_capacity(alloc, classes.len())?;
     for class in classes {

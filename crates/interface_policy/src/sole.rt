@@ -1,7 +1,7 @@
 // Whether the play of an interface is that of one queue.
 ghost use Rattle.std.specs.Prelude.{◌≡◌, ◌≤◌, ◌↔◌, ◌∷◌, [], ℕ, All, IfNone, IfSome, IsTrue, Some, length};
 ghost use Rattle.conf_laws.specs.Fit.{IsInterface};
-ghost use Rattle.hfsc_one_leaf.specs.Queue.{IsOneQueue};
+ghost use Rattle.hfsc_order.specs.Queue.{IsOneQueue};
 ghost use Rattle.hfsc_policy.specs.Classes.{leaves};
 ghost use Rattle.interface_policy.specs.Classes.{hfsc_classes};
 ghost use Rattle.interface_policy.specs.Sole.{OnlyShares};

@@ -7,17 +7,17 @@ use Rattle.slab.specs.Slab.{Slab}
 use Rattle.play_base.specs.declared.packet.Packet.{Packet}
 use Rattle.leaf_queue.specs.declared.pool.Kept.{Kept}
 
-pub record Held : Type 0 where
+pub record PoolView : Type 0 where
   pub slots : List (Option Kept)
   pub next : ℕ
   pub room : ℕ
 
 -- the packet of a ticket, None where the ticket is not held
-abbrev pub packet_of : Held → (ticket : ℕ) → Option Packet
+abbrev pub packet_of : PoolView → (ticket : ℕ) → Option Packet
 packet_of p t = option_map (λ (k : Kept). k.packet) (slice_index_or p.slots t None)
 
 -- whether the packet of a ticket is marked
-abbrev pub is_marked : Held → (ticket : ℕ) → Bool
+abbrev pub is_marked : PoolView → (ticket : ℕ) → Bool
 is_marked p t = option_map_or (λ (k : Kept). k.marked) (slice_index_or p.slots t None) false
 
 -- the ticket that a key of a slab is: no greater than 32 bits can hold
@@ -25,7 +25,7 @@ abbrev pub ticket_of : (key : ℕ) → ℕ
 ticket_of key = min key (2 ^ 32 - 1)
 
 -- how many tickets are held
-abbrev pub count_of : Held → ℕ
+abbrev pub count_of : PoolView → ℕ
 count_of p = count_by is_some p.slots
 
 -- the room is there, and each ticket fits 32 bits

@@ -1,6 +1,6 @@
 // The packets that wait, by their tickets.
 ghost use Rattle.std.specs.Prelude.{◌≡◌, ◌≢◌, ◌<◌, ◌+◌, ◌^◌, ℕ, None, Some, IsSome, IfOk};
-ghost use Rattle.leaf_queue.specs.Pool.{Held, IsReserved, packet_of, is_marked, count_of, ticket_of};
+ghost use Rattle.leaf_queue.specs.Pool.{PoolView, IsReserved, packet_of, is_marked, count_of, ticket_of};
 
 use crate::reserve::reserved;
 use play_base::{NoMemory, Packet, Ticket};
@@ -24,7 +24,7 @@ pub struct Pool {
 }
 
 impl Model for Pool {
-    ghost Value = { Held };
+    ghost Value = { PoolView };
 
     ghost view = { λ p. record { slots = p.held.slots; next = ticket_of p.held.vacant_key; room = p.room } };
 
@@ -50,7 +50,7 @@ impl Pool {
         Ok(Pool { held, room: n })
     }
 
-    /// The ticket that the next packet gets, where there is room for it. Takes no memory. Constant time.
+    /// The ticket that the next packet gets, where there is room for it. Does not allocate. Constant time.
     pub fn next(&self) -> Ticket
         ensures { result.0 ≡ self.now.next }
     {
@@ -72,7 +72,7 @@ impl Pool {
         self.held.insert_reserved(Kept { packet, marked });
     }
 
-    /// Whether the packet of a ticket that is held was marked. Takes no memory. Constant time.
+    /// Whether the packet of a ticket that is held was marked. Does not allocate. Constant time.
     pub fn marked(&self, ticket: Ticket) -> bool
         requires { IsSome (packet_of self.now ticket.0) }
         ensures { result ≡ is_marked self.now ticket.0 }

@@ -2,12 +2,12 @@
 use Rattle.std.proofs.Common.{◌≡◌, ℕ, zero, suc, ◌+◌, ◌-◌, ◌<◌, ◌≤◌, ◌++◌, Bool, true, false, cond, List, [], ◌∷◌, ◌⊎◌, inl, inr, add-zero, length, take, drop, get_or, max, refl, sym, ap, ◌∙◌, arith, eqb, nat_lt, slice_index}
 use Rattle.std.proofs.lemmas.List.{take_more, get_or-drop, length-drop, append-nil, append_assoc, drop_all, at_drop_more, length-append, length-take-le}
 use Rattle.std.proofs.lemmas.Bool.Decides.{nat_tests}
-use Rattle.line_text.specs.declared.word.Word.{Word}
-use Rattle.line_text.specs.Lines.{joint, joined, ends}
+use Rattle.line_text.specs.declared.word.Token.{Token}
+use Rattle.line_text.specs.Lines.{continuation_len, joined, ends}
 use Rattle.line_text.specs.Words.{is_blank, with_first, words_of, AreCountedFrom, word_list}
 use Rattle.line_text.proofs.Passing.{joined-step}
 
-pub counted_more : (n : ℕ) (words : List Word) (word : Word) → AreCountedFrom n words → word.index ≡ n + length words → AreCountedFrom n (words ++ word ∷ [])
+pub counted_more : (n : ℕ) (words : List Token) (word : Token) → AreCountedFrom n words → word.index ≡ n + length words → AreCountedFrom n (words ++ word ∷ [])
 counted_more n [] word h e = (omega arith, tt)
 counted_more n (first ∷ words) word h e = (h.0, counted_more (n + 1) words word h.1 (omega arith))
 
@@ -35,9 +35,9 @@ words_of-end (byte ∷ []) plain = rw plain.0 refl
 words_of-end (byte ∷ next ∷ word) plain =
     words_of-joins byte next word plain.0 plain.1.0 ∙ ap (with_first byte) (words_of-end (next ∷ word) plain.1)
 
-joint-other : (text : List ℕ) → eqb (slice_index text 0) 92 ≡ false → joint text ≡ 0
-unfolding joint
-joint-other text h = rw h refl
+continuation_len-other : (text : List ℕ) → eqb (slice_index text 0) 92 ≡ false → continuation_len text ≡ 0
+unfolding continuation_len
+continuation_len-other text h = rw h refl
 
 blank_is_other : (byte : ℕ) → is_blank byte ≡ true → eqb byte 92 ≡ false
 blank_is_other byte h = grind (arith, nat_tests)
@@ -64,19 +64,19 @@ first_of_rest : (line : List ℕ) (at : ℕ) → get_or (drop at line) 0 0 ≡ g
 first_of_rest line at = get_or-drop at line 0 0 ∙ rw add-zero refl
 
 front : (line : List ℕ) (at n : ℕ) → at < length line → ends (get_or line at 0) ≡ false
-    → n ≡ cond (is_blank (get_or (drop at line) 0 0)) 1 (joint (drop at line)) → IsByte line at n ⊎ IsBlank line at n
+    → n ≡ cond (is_blank (get_or (drop at line) 0 0)) 1 (continuation_len (drop at line)) → IsByte line at n ⊎ IsBlank line at n
 front line at n inside on same =
     let x = first_of_rest line at in
-    let none : is_blank (get_or line at 0) ≡ true → joint (drop at line) ≡ 0 = λ h. joint-other (drop at line) (ap (λ byte. eqb byte 92) x ∙ blank_is_other (get_or line at 0) h) in
-    front-by line at (joint (drop at line)) n (is_blank (get_or line at 0)) refl none (joined-step line at inside on) (same ∙ ap (λ byte. cond (is_blank byte) 1 (joint (drop at line))) x)
+    let none : is_blank (get_or line at 0) ≡ true → continuation_len (drop at line) ≡ 0 = λ h. continuation_len-other (drop at line) (ap (λ byte. eqb byte 92) x ∙ blank_is_other (get_or line at 0) h) in
+    front-by line at (continuation_len (drop at line)) n (is_blank (get_or line at 0)) refl none (joined-step line at inside on) (same ∙ ap (λ byte. cond (is_blank byte) 1 (continuation_len (drop at line))) x)
 
 pub front_byte : (line : List ℕ) (at n : ℕ) → at < length line → ends (get_or line at 0) ≡ false
-    → n ≡ cond (is_blank (get_or (drop at line) 0 0)) 1 (joint (drop at line)) → n ≡ 0 → IsByte line at n
+    → n ≡ cond (is_blank (get_or (drop at line) 0 0)) 1 (continuation_len (drop at line)) → n ≡ 0 → IsByte line at n
 front_byte line at n inside on same none =
     elim (front line at n inside on same) [ inl h ↦ h | inr h ↦ absurd (omega (arith, h.0)) ]
 
 pub front_blank : (line : List ℕ) (at n : ℕ) → at < length line → ends (get_or line at 0) ≡ false
-    → n ≡ cond (is_blank (get_or (drop at line) 0 0)) 1 (joint (drop at line)) → (n ≡ 0 → ⊥) → IsBlank line at n
+    → n ≡ cond (is_blank (get_or (drop at line) 0 0)) 1 (continuation_len (drop at line)) → (n ≡ 0 → ⊥) → IsBlank line at n
 front_blank line at n inside on same some =
     elim (front line at n inside on same) [ inl h ↦ absurd (some h.0) | inr h ↦ h ]
 

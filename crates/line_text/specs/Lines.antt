@@ -4,8 +4,8 @@ use Rattle.std.specs.Prelude.{ℕ, zero, suc, ◌+◌, ◌-◌, ◌==◌, ◌&&�
 
 -- The length of the continuation at the front of a text: a backslash and a line feed, or a backslash, a carriage return
 -- and a line feed. It is 0 where no continuation stands there.
-unfoldable pub joint : List ℕ → ℕ
-joint text =
+unfoldable pub continuation_len : List ℕ → ℕ
+continuation_len text =
     if (slice_index text 0 == 92) && (slice_index text 1 == 10) then 2
     else if (slice_index text 0 == 92) && (slice_index text 1 == 13) && (slice_index text 2 == 10) then 3
     else 0
@@ -23,7 +23,7 @@ line_len_after (suc inside) (byte ∷ text) = 1 + line_len_after inside text
 line_len_after zero (byte ∷ text) =
     if byte == 10 then 1
     else if byte == 35 then 1 + through_line_feed text
-    else 1 + line_len_after (joint (byte ∷ text) - 1) text
+    else 1 + line_len_after (continuation_len (byte ∷ text) - 1) text
 
 abbrev pub line_len : List ℕ → ℕ
 line_len text = line_len_after 0 text
@@ -39,7 +39,7 @@ joined_after inside [] = []
 joined_after (suc inside) (byte ∷ line) = joined_after inside line
 joined_after zero (byte ∷ line) =
     if ends byte then []
-    else if nat_lt 0 (joint (byte ∷ line)) then 32 ∷ joined_after (joint (byte ∷ line) - 1) line
+    else if nat_lt 0 (continuation_len (byte ∷ line)) then 32 ∷ joined_after (continuation_len (byte ∷ line) - 1) line
     else byte ∷ joined_after 0 line
 
 abbrev pub joined : List ℕ → List ℕ

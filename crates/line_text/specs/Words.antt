@@ -1,7 +1,7 @@
 -- The words of a line: the longest runs of bytes between its blanks.
 use Rattle.std.specs.Prelude.{ℕ, ◌≡◌, ◌+◌, ◌==◌, ◌||◌, Bool, false, not, List, [], ◌∷◌, map, slice_range, if◌then◌else◌}
 use Rattle.line_text.specs.declared.line.Line.{Line}
-use Rattle.line_text.specs.declared.word.Word.{Word}
+use Rattle.line_text.specs.declared.word.Token.{Token}
 use Rattle.line_text.specs.Lines.{joined}
 
 -- space, tab, carriage return, '[' and ']'
@@ -35,11 +35,11 @@ abbrev pub words_in : List ℕ → Line → List (List ℕ)
 words_in text line = words_of (joined (bytes_of text line))
 
 -- the bytes of words that the code keeps
-abbrev pub parts_of : List Word → List (List ℕ)
-parts_of words = map (λ (w : Word). w.parts.now) words
+abbrev pub parts_of : List Token → List (List ℕ)
+parts_of words = map (λ (w : Token). w.parts.now) words
 
 -- each word has its number, from the given one on
-abbrev pub AreCountedFrom : ℕ → List Word → Type 0
+abbrev pub AreCountedFrom : ℕ → List Token → Type 0
 AreCountedFrom n [] = Unit {0}
 AreCountedFrom n (word ∷ words) = (word.index ≡ n) × AreCountedFrom (n + 1) words
 

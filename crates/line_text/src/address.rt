@@ -4,13 +4,13 @@ ghost use Rattle.line_text.specs.Numbers.{cut};
 ghost use Rattle.line_text.specs.Addresses.{octet, ip4_of, group, groups_of, side, gap_from, gap, around, all_groups, ip6_of};
 
 use crate::number::{cut, number};
-use crate::word::Word;
+use crate::word::Token;
 use arrayvec::ArrayVec;
 
 /// The address of IPv4 that a word writes: four decimal numbers of 1 to 3 digits, each at most 255, joined by points.
 ///
 /// `None` exactly where the word is not of this form. Takes the word's length in time and no memory. Source: altq.conf(5).
-pub fn ip4(word: &Word) -> Option<[u8; 4]>
+pub fn ip4(word: &Token) -> Option<[u8; 4]>
     ensures { result ≡ ip4_of word.now.parts.now }
 {
     let (first, rest) = cut(b'.', word.parts)?;
@@ -39,7 +39,7 @@ fn octet(text: &[u8]) -> Option<u8>
 /// `::` that stands for one or more groups of zero. An IPv4 address within is not of this form.
 ///
 /// `None` exactly where the word is not of this form. Takes the word's length in time and no memory. Source: RFC 4291, 2.2.
-pub fn ip6(word: &Word) -> Option<[u8; 16]>
+pub fn ip6(word: &Token) -> Option<[u8; 16]>
     ensures { result ≡ ip6_of word.now.parts.now }
 {
     match gap(word.parts) {

@@ -9,4 +9,4 @@ mod word;
 pub use address::{ip4, ip6};
 pub use line::{Line, next_line};
 pub use number::{cut, decimal, rate, whole};
-pub use word::{LineFault, Word, word_count, words};
+pub use word::{LineFault, Token, word_count, words};

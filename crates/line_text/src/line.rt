@@ -1,6 +1,6 @@
 //! Logical lines: where each begins and ends, and how long it is once it is joined.
 ghost use Rattle.std.specs.Prelude.{◌≡◌, ℕ, ◌+◌, ◌<◌, ◌≤◌, length, drop, MatchOption};
-ghost use Rattle.line_text.specs.Lines.{joint, through_line_feed, line_len, joined, ends};
+ghost use Rattle.line_text.specs.Lines.{continuation_len, through_line_feed, line_len, joined, ends};
 
 /// A logical line of a text: the physical line with this number, counted from 1, and those that continue it.
 #[derive(Clone, Copy)]
@@ -45,7 +45,7 @@ fn line_len(text: &[u8]) -> usize
         if text[at] == b'#' {
             return at + 1 + through_line_feed(&text[at + 1..]);
         }
-        at += joint(&text[at..]).max(1);
+        at += continuation_len(&text[at..]).max(1);
     }
     at
 }
@@ -66,9 +66,9 @@ fn through_line_feed(text: &[u8]) -> usize
 }
 
 /// The length of the continuation at the front of a text, and 0 where none stands there.
-#[tactic(auto, unfolding(crate::specs::Lines::joint))]
-pub(crate) fn joint(text: &[u8]) -> usize
-    ensures value { result ≡ joint text.now }
+#[tactic(auto, unfolding(crate::specs::Lines::continuation_len))]
+pub(crate) fn continuation_len(text: &[u8]) -> usize
+    ensures value { result ≡ continuation_len text.now }
     ensures within { result ≤ length text.now }
 {
     if text.len() >= 2 && text[0] == b'\\' && text[1] == b'\n' {
@@ -88,7 +88,7 @@ pub(crate) fn joined_len(line: &[u8]) -> usize
     let mut at = 0;
     while at < line.len() && !ends_line(line[at]) {
         count += 1;
-        at += joint(&line[at..]).max(1);
+        at += continuation_len(&line[at..]).max(1);
     }
     count
 }

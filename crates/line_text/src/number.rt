@@ -4,14 +4,14 @@ ghost use Rattle.std.specs.Char.{digit_value};
 ghost use Rattle.std.specs.List.{position};
 ghost use Rattle.line_text.specs.Numbers.{are_digits, number, whole_of, cut, multiple_of, scaled, mantissa, rate_of};
 
-use crate::word::Word;
+use crate::word::Token;
 
 /// The whole number that a word writes: decimal digits, or `0x` and hexadecimal digits of either case, leading zeros
 /// included.
 ///
 /// `None` exactly where the word is not of this form, or the number is 2^64 or more. Takes the word's length in time and
 /// no memory. Source: altq.conf(5).
-pub fn whole(word: &Word) -> Option<u64>
+pub fn whole(word: &Token) -> Option<u64>
     ensures { result ≡ whole_of word.now.parts.now }
 {
     let text = word.parts;
@@ -26,7 +26,7 @@ pub fn whole(word: &Word) -> Option<u64>
 ///
 /// `None` exactly where the word is not of this form, or the rate is not whole, or it is 2^64 or more. Takes the word's
 /// length in time and no memory. Source: altq.conf(5).
-pub fn rate(word: &Word) -> Option<u64>
+pub fn rate(word: &Token) -> Option<u64>
     ensures { result ≡ rate_of word.now.parts.now }
 {
     let text = word.parts;

@@ -1,10 +1,10 @@
 //! The words of a logical line.
 ghost use Rattle.std.specs.Prelude.{◌≡◌, ◌+◌, ◌<◌, ◌≤◌, ◌++◌, ◌↔◌, length, slice_index, IfOk, OnOk, if◌then◌else◌, IsErrOf};
-ghost use Rattle.line_text.specs.Lines.{joint, joined, longest_line};
+ghost use Rattle.line_text.specs.Lines.{continuation_len, joined, longest_line};
 ghost use Rattle.line_text.specs.Words.{is_blank, bytes_of, words_in, words_of, parts_of, AreCountedFrom, word_list};
 ghost use Rattle.line_text.specs.declared.word.LineFault.TheVariants.{NoMemory};
 
-use crate::line::{Line, ends_line, joined_len, joint};
+use crate::line::{Line, continuation_len, ends_line, joined_len};
 use std::alloc::{AllocError, AllocFailed, Global};
 
 /// The most bytes that a joined line may have.
@@ -12,7 +12,7 @@ const LONGEST_LINE: usize = 4096;
 
 /// A word of a line.
 #[derive(Clone, Copy)]
-pub struct Word<'a> {
+pub struct Token<'a> {
     /// Its number in its logical line, from 1.
     pub index: u64,
     /// Its bytes, as they stand in the text.
@@ -48,7 +48,7 @@ impl<T: Drop> From<AllocFailed<T>> for LineFault {
 ///
 /// `line` is one that `next_line` answers for the text. Answers `TooLong` exactly where the joined line has more than 4,096
 /// bytes, and `NoMemory` where memory ran out for the list. Takes the line's length in time. Source: altq.conf(5).
-pub fn words<'a>(alloc: Global, text: &'a [u8], line: &Line) -> Result<Vec<Word<'a>>, LineFault>
+pub fn words<'a>(alloc: Global, text: &'a [u8], line: &Line) -> Result<Vec<Token<'a>>, LineFault>
     requires order { line.now.from ≤ line.now.to }
     requires within { line.now.to ≤ length text.now }
     ensures words { IfOk result (λ found. parts_of found.items ≡ words_in text.now line.now) }
@@ -106,7 +106,7 @@ fn one_if(is_there: bool) -> u64
 }
 
 /// The words of a line's bytes.
-fn split(alloc: Global, line: &[u8]) -> Result<Vec<Word<'_>>, AllocError>
+fn split(alloc: Global, line: &[u8]) -> Result<Vec<Token<'_>>, AllocError>
     ensures words { IfOk result (λ found. parts_of found.items ≡ words_of (joined line.now)) }
     ensures indexes { IfOk result (λ found. AreCountedFrom 1 found.items) }
 {
@@ -128,13 +128,13 @@ fn split(alloc: Global, line: &[u8]) -> Result<Vec<Word<'_>>, AllocError>
 }
 
 /// Adds the word of these bytes, if there are any.
-fn add_word<'a>(found: &mut Vec<Word<'a>>, parts: &'a [u8]) -> Result<(), AllocError>
+fn add_word<'a>(found: &mut Vec<Token<'a>>, parts: &'a [u8]) -> Result<(), AllocError>
     ensures words { OnOk result (parts_of found.new.items ≡ parts_of found.old.items ++ word_list parts.now) }
     ensures indexes { OnOk result (AreCountedFrom 1 found.old.items → AreCountedFrom 1 found.new.items) }
 {
     if !parts.is_empty() {
         let index = found.len() as u64 + 1;
-        found.push(Word { index, parts })?;
+        found.push(Token { index, parts })?;
     }
     Ok(())
 }
@@ -142,10 +142,14 @@ fn add_word<'a>(found: &mut Vec<Word<'a>>, parts: &'a [u8]) -> Result<(), AllocE
 /// How many bytes the blank at the front of a text has: 2 or 3 where it is a continuation, and 0 where no blank is there.
 fn blank_len(text: &[u8]) -> usize
     requires { 0 < length text.now }
-    ensures value { result ≡ (if is_blank (slice_index text.now 0) then 1 else joint text.now) }
+    ensures value { result ≡ (if is_blank (slice_index text.now 0) then 1 else continuation_len text.now) }
     ensures within { result ≤ length text.now }
 {
-    if is_blank(text[0]) { 1 } else { joint(text) }
+    if is_blank(text[0]) {
+        1
+    } else {
+        continuation_len(text)
+    }
 }
 
 fn is_blank(byte: u8) -> bool

@@ -58,7 +58,7 @@ fn run_end(rate: u64, inverse: u64, run: u64, sent: u128) -> u64
 }
 
 impl LinkClock {
-    /// A link of `rate` bits per second, 1,000 to 10^12, that has sent nothing. Takes no memory.
+    /// A link of `rate` bits per second, 1,000 to 10^12, that has sent nothing. Does not allocate.
     pub fn new(rate: u64) -> LinkClock
         requires least { 1000 ≤ rate }
         requires most { rate ≤ 10 ^ 12 }
@@ -81,7 +81,7 @@ impl LinkClock {
     }
 
     /// The end, in nanoseconds, of a packet of `len` bytes that starts at `now`: no earlier than the last end, and no later
-    /// than 2^63. One division where a run is longer than 2^64 units or the guess fails; takes no memory.
+    /// than 2^63. One division where a run is longer than 2^64 units or the guess fails; does not allocate.
     pub fn end_of(&self, now: u64, len: u32) -> u64
         requires free { self.now.link.free ≤ now }
         requires early { now ≤ 2 ^ 63 }
@@ -111,7 +111,7 @@ impl LinkClock {
     }
 
     /// Tells it of a packet of `len` bytes that was sent at `now` and has this end, which is that of `end_of`. No division;
-    /// takes no memory.
+    /// does not allocate.
     pub fn sent(&mut self, now: u64, len: u32, end: u64)
         requires free { self.old.link.free ≤ now }
         requires early { now < 2 ^ 63 }

@@ -3,13 +3,13 @@ use Rattle.std.proofs.Common.{◌≡◌, ◌∙◌, ℕ, List, [], None, Some, a
 use Rattle.std.proofs.lemmas.List.{append-nil}
 use Rattle.std.specs.Prelude.{IsTrue}
 use Rattle.generated.specs.Generating.{WroteFrontOf}
-use Rattle.play_base.specs.View.{View, Any, Created, Keeps, NotNamed, OtherThan, Unchanged, Wrote}
+use Rattle.play_base.specs.View.{View, Everything, Created, Keeps, NotNamed, OtherThan, Unchanged, Wrote}
 use Rattle.play_base.proofs.ViewLaws.{created_bytes, keeps_fewer}
 use Rattle.command_base.proofs.PartLemmas.{new_part, none_some, there_or_not, there_then}
 use Rattle.play_command.specs.Played.{IsFrontAt}
 
 pub unchanged_keeps : (a b : View) (name : List ℕ) → Unchanged a b → Keeps (OtherThan a name) (NotNamed a name) a b
-unchanged_keeps a b name x = keeps_fewer Any _ Any _ a b (λ m h. tt) (λ f h. tt) x.keeps
+unchanged_keeps a b name x = keeps_fewer Everything _ Everything _ a b (λ m h. tt) (λ f h. tt) x.keeps
 
 pub unchanged_front : (a b : View) (name text : List ℕ) → Unchanged a b → IsFrontAt a b 2 name text
 unchanged_front a b name text x = inl ((λ f fresh e. none_some 2 (sym (x.none f fresh) ∙ e)), x.keeps.bytes name tt)

@@ -21,7 +21,7 @@ use Rattle.traffic_marks.specs.Marked.{Conditioning, marked}
 use Rattle.marked_files.specs.Courses.{Course, made}
 use Rattle.marked_files.specs.Heads.{headed, whole}
 use Rattle.marked_files.specs.Markings.{Marking}
-use Rattle.marked_files.specs.Standing.{AreWhole, IsBehind, IsNone, IsPart, IsRefused, Stands, StandsAt, Tells, Waits, has_header, has_header_at, head_tells, stand_tells, told_at, told_last, told_of, whole_end}
+use Rattle.marked_files.specs.Standing.{AreWhole, IsBehind, IsNone, IsPart, IsRefused, IsAtRecordEnd, StandsAt, Tells, Waits, has_header, has_header_at, head_tells, stand_tells, told_at, told_last, told_of, whole_end}
 use Rattle.marked_files.specs.declared.behind.Behind.{Behind}
 use Rattle.marked_files.specs.declared.behind.Behind.TheVariants as behind
 use Rattle.marked_files.specs.declared.record_head.RecordHead.{RecordHead}
@@ -64,7 +64,7 @@ spot_of placed c taken bytes m = record {
   given = bytes ++ m.held.ready;
 }
 
-pub is_spot : {C : Type 0} (placed : C → List ℕ → Placed) (c : Conditioning) (taken bytes : List ℕ) (m : Marking C) → Stands placed c taken bytes m
+pub is_spot : {C : Type 0} (placed : C → List ℕ → Placed) (c : Conditioning) (taken bytes : List ℕ) (m : Marking C) → IsAtRecordEnd placed c taken bytes m
     → IsSpot m.stage (spot_of placed c taken bytes m)
 is_spot placed c taken bytes m s =
     let far : length bytes + length m.held.ready ≡ length (bytes ++ m.held.ready) = omega (arith, length-append bytes m.held.ready) in
@@ -320,7 +320,7 @@ cut_at (Records head) x p part =
     )
 cut_at Rest x p part = absurd part
 
-pub cut_whole : {C : Type 0} (placed : C → List ℕ → Placed) (c : Conditioning) (taken bytes : List ℕ) (m : Marking C) → Stands placed c taken bytes m → Waits m
+pub cut_whole : {C : Type 0} (placed : C → List ℕ → Placed) (c : Conditioning) (taken bytes : List ℕ) (m : Marking C) → IsAtRecordEnd placed c taken bytes m → Waits m
     → length m.held.ready ≡ 0 → (last : Step) × IsLast last × AreWhole c taken last bytes
 cut_whole placed c taken bytes m s w none =
     let x = cut_at m.stage (spot_of placed c taken bytes m) (is_spot placed c taken bytes m s) w.part in

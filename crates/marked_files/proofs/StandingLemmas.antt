@@ -16,9 +16,9 @@ use Rattle.traffic_marks.specs.Marked.{Conditioning, marked}
 use Rattle.traffic_marks.proofs.Steps.{formed_whole}
 use Rattle.marked_files.specs.Courses.{Course, made, marked_record, passed}
 use Rattle.marked_files.specs.Heads.{headed, whole}
-use Rattle.marked_files.specs.Held.{Held}
+use Rattle.marked_files.specs.Held.{PendingBytes}
 use Rattle.marked_files.specs.Markings.{Marking, given}
-use Rattle.marked_files.specs.Standing.{HasRecords, HasTakenOn, IsHalted, IsNone, IsPart, IsSameButStage, KeepsStanding, Stands, StandsAt, reach, reach_at}
+use Rattle.marked_files.specs.Standing.{HasRecords, HasTakenOn, IsHalted, IsNone, IsPart, IsSameButStage, KeepsStanding, IsAtRecordEnd, StandsAt, reach, reach_at}
 use Rattle.marked_files.specs.Taking.{HasPassed, KeepsGiven}
 use Rattle.marked_files.specs.declared.record_head.RecordHead.{RecordHead}
 use Rattle.marked_files.specs.declared.stage.Stage.{Stage}
@@ -33,7 +33,7 @@ MovesOn s t c d xs k = (taken : List ℕ) (j : ℕ) → StandsAt s c taken j →
 
 pub stands_on : {C : Type 0} (placed : C → List ℕ → Placed) (m n : Marking C) (k : ℕ) → KeepsGiven placed m n → n.held.pending ≡ drop k m.held.pending
     → length n.held.ready ≡ length m.held.ready + k → MovesOn m.stage n.stage m.course n.course m.held.pending k
-    → (c : Conditioning) (taken bytes : List ℕ) → Stands placed c taken bytes m → Stands placed c taken bytes n
+    → (c : Conditioning) (taken bytes : List ℕ) → IsAtRecordEnd placed c taken bytes m → IsAtRecordEnd placed c taken bytes n
 stands_on placed m n k keeps pending ready moves c taken bytes s =
     let j = length bytes + length m.held.ready in
     let far : j + k ≡ length bytes + length n.held.ready = omega (arith, ready) in
@@ -186,8 +186,8 @@ standing_back placed m n stage s =
     let same : IsSame n m = record {
       stage = stage;
       course = s.course;
-      ready = ap (λ (h : Held). h.ready) s.held;
-      pending = ap (λ (h : Held). h.pending) s.held;
+      ready = ap (λ (h : PendingBytes). h.ready) s.held;
+      pending = ap (λ (h : PendingBytes). h.pending) s.held;
       classes = s.classes;
     } in
     subst (KeepsStanding placed m) (sym (same_marking n m same)) (standing_refl placed m)
@@ -216,7 +216,7 @@ stands_longer (Records head) c taken more n h = records_longer (form head) c tak
 stands_longer Rest c taken more n h = h
 
 pub more_stands : {C : Type 0} (placed : C → List ℕ → Placed) (m : Marking C) (more : List ℕ) → length m.held.ready ≡ 0
-    → (c : Conditioning) (taken bytes : List ℕ) → Stands placed c taken bytes m → Stands placed c (taken ++ more) bytes (with_more m more)
+    → (c : Conditioning) (taken bytes : List ℕ) → IsAtRecordEnd placed c taken bytes m → IsAtRecordEnd placed c (taken ++ more) bytes (with_more m more)
 more_stands placed m more none c taken bytes s =
     let i = length bytes + length m.held.ready in
     let ready : m.held.ready ≡ [] = nil_from_length m.held.ready none in
@@ -237,7 +237,7 @@ more_stands placed m more none c taken bytes s =
 -- before a byte was passed
 pub begun_stands : {C : Type 0} (placed : C → List ℕ → Placed) (c : Conditioning) (first : List ℕ) (m : Marking C) → m.stage ≡ Start → m.course.count ≡ 0
     → m.course.at ≡ 24 → m.held.ready ≡ [] → m.held.pending ≡ first → ((left : List ℕ) → given placed m left ≡ marked c (first ++ left))
-    → Stands placed c first [] m
+    → IsAtRecordEnd placed c first [] m
 begun_stands placed c first m start count at ready pending same =
     let none : length m.held.ready ≡ 0 = ap length ready in
     let far : 0 ≡ length {A = ℕ} [] + length m.held.ready = omega (arith, none) in
@@ -266,7 +266,7 @@ pub none_taken : {C : Type 0} (placed : C → List ℕ → Placed) (v w : View) 
 none_taken placed v w file m there u = record {
   more = [];
   took = took_unchanged v v w file [] there (took_nothing v file) u;
-  stands = λ c taken bytes s. subst (λ (l : List ℕ). Stands placed c l bytes m) (sym (append-nil taken)) s;
+  stands = λ c taken bytes s. subst (λ (l : List ℕ). IsAtRecordEnd placed c l bytes m) (sym (append-nil taken)) s;
 }
 
 pub reach_by : {C : Type 0} (w m n : Marking C) (more : List ℕ) (k : ℕ) → w ≡ m → IsSame n (with_more w more) → length more ≡ k → reach n ≡ reach m + k

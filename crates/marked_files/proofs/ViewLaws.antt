@@ -6,7 +6,7 @@ use Rattle.std.proofs.lemmas.Bool.{ne_eqb}
 use Rattle.std.proofs.lemmas.Bool.Decides.{eqb_tells}
 use Rattle.std.proofs.lemmas.List.{nil_from_length}
 use Rattle.altq_model.specs.declared.Placed.{Placed}
-use Rattle.play_base.specs.View.{View, Any, IsAtEnd, Keeps, Later, TellsLeft, Took, Unchanged}
+use Rattle.play_base.specs.View.{View, Everything, IsAtEnd, Keeps, Later, TellsLeft, Took, Unchanged}
 use Rattle.marked_files.specs.Courses.{Course, made}
 use Rattle.marked_files.specs.Markings.{Marking, given}
 use Rattle.marked_files.specs.Taking.{HasRead, holds}
@@ -62,8 +62,8 @@ later_by x v w l placed m n =
     record { read = l.read; write = l.write; fixed = ap (λ (names : List ℕ). x.files ∷ x.file ∷ x.marker ∷ names) l.fixed }
 
 -- what stays of the files behind the wrapper, of other files and names
-keeps_others : {C : Type 0} (placed : C → List ℕ → Placed) (x : Wrapper) (v w : View) (m n : Marking C) → Keeps Any (λ f. f ≢ x.file) v w
-    → Keeps Any (λ f. f ≢ x.file) (seen_by placed x v m) (seen_by placed x w n)
+keeps_others : {C : Type 0} (placed : C → List ℕ → Placed) (x : Wrapper) (v w : View) (m n : Marking C) → Keeps Everything (λ f. f ≢ x.file) v w
+    → Keeps Everything (λ f. f ≢ x.file) (seen_by placed x v m) (seen_by placed x w n)
 keeps_others placed x v w m n k = record {
   tells = k.tells;
   bytes = k.bytes;

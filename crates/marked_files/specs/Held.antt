@@ -2,6 +2,6 @@
 use Rattle.std.specs.Prelude.{ℕ, List}
 
 -- those that are to be given as they stand, and behind them those that are not marked yet
-pub record Held : Type 0 where
+pub record PendingBytes : Type 0 where
   pub ready : List ℕ
   pub pending : List ℕ

@@ -3,7 +3,7 @@ use Rattle.std.specs.Prelude.{◌≡◌, ℕ, ◌++◌, List, [], Option}
 use Rattle.altq_model.specs.declared.Placed.{Placed}
 use Rattle.traffic_meter.specs.declared.rule.MeterRule.{MeterRule}
 use Rattle.marked_files.specs.Courses.{Course, begun, made}
-use Rattle.marked_files.specs.Held.{Held}
+use Rattle.marked_files.specs.Held.{PendingBytes}
 use Rattle.marked_files.specs.declared.stage.Stage.{Stage}
 use Rattle.marked_files.specs.declared.stage.Stage.TheVariants.{Start}
 
@@ -12,7 +12,7 @@ pub record Marking (C : Type 0) : Type 0 where
   pub classes : C
   pub stage : Stage
   pub course : Course
-  pub held : Held
+  pub held : PendingBytes
 
 -- what is given of a file that has these bytes left, where classes place frames so
 abbrev pub given : {C : Type 0} → (C → List ℕ → Placed) → Marking C → (left : List ℕ) → List ℕ

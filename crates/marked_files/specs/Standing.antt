@@ -49,7 +49,7 @@ StandsAt Rest c taken n = ⊥
 
 -- a marker has taken these first bytes of a capture, and of what becomes of them these were given: those that are ready follow them up
 -- to the end of a record, and those that are pending stand behind it
-pub record Stands {C : Type 0} (placed : C → List ℕ → Placed) (c : Conditioning) (taken bytes : List ℕ) (m : Marking C) : Type 0 where
+pub record IsAtRecordEnd {C : Type 0} (placed : C → List ℕ → Placed) (c : Conditioning) (taken bytes : List ℕ) (m : Marking C) : Type 0 where
   pub many : length taken ≡ length bytes + holds m
   pub pending : m.held.pending ≡ drop (length bytes + length m.held.ready) taken
   pub by : StandsAt m.stage m.course taken (length bytes + length m.held.ready)
@@ -66,7 +66,7 @@ reach m = reach_at m.stage m.course + length m.held.pending
 
 -- whatever was taken and given, a marker stands for it still
 pub record KeepsStanding {C : Type 0} (placed : C → List ℕ → Placed) (old new : Marking C) : Type 0 where
-  pub stands : (c : Conditioning) (taken bytes : List ℕ) → Stands placed c taken bytes old → Stands placed c taken bytes new
+  pub stands : (c : Conditioning) (taken bytes : List ℕ) → IsAtRecordEnd placed c taken bytes old → IsAtRecordEnd placed c taken bytes new
   pub reach : reach new ≡ reach old
 
 -- the bytes that are pending are fewer than a head or a record has
@@ -144,14 +144,14 @@ IsBehind c capture bytes behind.Limit = AreWhole c capture steps.Limit bytes
 
 -- so it is of the capture whose first bytes a marker has taken, and of which these follow
 abbrev pub Tells : {C : Type 0} → (C → List ℕ → Placed) → Marking C → (left : List ℕ) → Behind → Type 0
-Tells placed m left told = (c : Conditioning) (taken bytes : List ℕ) → Stands placed c taken bytes m
+Tells placed m left told = (c : Conditioning) (taken bytes : List ℕ) → IsAtRecordEnd placed c taken bytes m
     → IsBehind c (taken ++ left) (bytes ++ m.held.ready) told
 
 -- bytes were taken from the file alone, and the marker stands for them too
 pub record HasTakenOn {C : Type 0} (placed : C → List ℕ → Placed) (v w : View) (file : ℕ) (old new : Marking C) : Type 0 where
   pub more : List ℕ
   pub took : Took v w file more
-  pub stands : (c : Conditioning) (taken bytes : List ℕ) → Stands placed c taken bytes old → Stands placed c (taken ++ more) bytes new
+  pub stands : (c : Conditioning) (taken bytes : List ℕ) → IsAtRecordEnd placed c taken bytes old → IsAtRecordEnd placed c (taken ++ more) bytes new
 
 -- what is told of what the file has left
 abbrev pub TellsLeft : {C : Type 0} → (C → List ℕ → Placed) → View → (file : ℕ) → Marking C → Behind → Type 0

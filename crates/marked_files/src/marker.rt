@@ -5,7 +5,7 @@ ghost use Rattle.marked_files.specs.Markings.{IsUnused};
 ghost use Rattle.marked_files.specs.Metering.{AreAssured};
 ghost use Rattle.marked_files.specs.Taking.{HasAdvanced, HasGivenAll, HasPassed, HasRead, HasReady, HasTaken, holds};
 ghost use Rattle.capture_model.specs.Capture.{damage, header};
-ghost use Rattle.marked_files.specs.Standing.{HasTakenOn, IsHalted, IsRefused, KeepsStanding, Stands, Tells, TellsLeft, Waits, has_header, head_tells, reach, stand_tells, told_last, told_of};
+ghost use Rattle.marked_files.specs.Standing.{HasTakenOn, IsHalted, IsRefused, KeepsStanding, IsAtRecordEnd, Tells, TellsLeft, Waits, has_header, head_tells, reach, stand_tells, told_last, told_of};
 ghost use Rattle.marked_files.specs.declared.behind.Behind.TheVariants.{Damaged, More};
 ghost use Rattle.marked_files.specs.declared.stage.Stage.TheVariants.{Records, Start};
 ghost use Rattle.traffic_marks.specs.Marked.{Conditioning};
@@ -339,7 +339,7 @@ impl<C: Classify + Drop> Marker<C> {
         Ok(())
     }
 
-    /// The bytes that are ready to be given. Takes no memory, in constant time.
+    /// The bytes that are ready to be given. Does not allocate, in constant time.
     pub fn ready(&self) -> &[u8]
         ensures { result.now ≡ self.now.held.ready }
     {
@@ -349,8 +349,8 @@ impl<C: Classify + Drop> Marker<C> {
     /// Lets go of the bytes that are ready: they were given.
     pub fn give_ready(&mut self)
         ensures ready { self.new.held.ready ≡ [] }
-        ensures stands { (c : Conditioning) (taken bytes : List ℕ) → Stands C.placed c taken bytes self.old
-            → Stands C.placed c taken (bytes ++ self.old.held.ready) self.new }
+        ensures stands { (c : Conditioning) (taken bytes : List ℕ) → IsAtRecordEnd C.placed c taken bytes self.old
+            → IsAtRecordEnd C.placed c taken (bytes ++ self.old.held.ready) self.new }
         ensures waits { Waits self.old → Waits self.new }
         ensures reach { reach self.new ≡ reach self.old }
     {
@@ -360,7 +360,7 @@ impl<C: Classify + Drop> Marker<C> {
     /// Takes bytes from the file by one read of at most 65,536 bytes, and makes the head and the records ready, marked, that then stand
     /// whole; what stands behind them is never ready. Says what does: `End`, `Damaged` and `Limit` come exactly where the file tells of
     /// them, whatever was taken of it. After an error nothing was taken. `Failed` comes only where the count of read faults of the
-    /// file's part rose, `NoMemory` only from `files`. At most 262,160 bytes are held. Takes no memory of its own.
+    /// file's part rose, `NoMemory` only from `files`. At most 262,160 bytes are held. Does not allocate itself.
     pub fn next_records<F: Files>(&mut self, files: &mut F, file: u32) -> Result<Behind, Trouble>
         requires there { IsSome ((F.view files.old).part file) }
         requires given { length self.old.held.ready ≡ 0 }
@@ -386,8 +386,7 @@ impl<C: Classify + Drop> Marker<C> {
     /// stands behind the last of them. 0 for an `into` that isn't empty says that the file is at its end and no byte is held. It takes
     /// what it needs from `files` by reads of at most 65,536 bytes: each byte that was taken is given or held, and at most 262,160 are
     /// held. After an error no byte was given, those that were taken stay, and no record stands whole in them that was not given before.
-    /// `Failed` comes only where the count of read faults of the file's part rose, `NoMemory` only from `files`. Takes no memory of its
-    /// own.
+    /// `Failed` comes only where the count of read faults of the file's part rose, `NoMemory` only from `files`. Does not allocate itself.
     pub fn read<F: Files>(
         &mut self,
         files: &mut F,

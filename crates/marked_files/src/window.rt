@@ -28,9 +28,9 @@ pub struct Window {
 
 impl Model for Window {
     ghost use Rattle.std.specs.Prelude.{◌≡◌, ◌≤◌, ◌-◌, take, drop, vec_len};
-    ghost use Rattle.marked_files.specs.Held.{Held};
+    ghost use Rattle.marked_files.specs.Held.{PendingBytes};
 
-    ghost Value = { Held };
+    ghost Value = { PendingBytes };
 
     ghost view = { λ w. record {
       ready = take (w.middle - w.from) (drop w.from w.buffer.items);

@@ -1,6 +1,6 @@
 // Files in memory, which tell everything.
 ghost use Rattle.std.specs.Prelude.{◌≡◌, ◌≢◌, ◌≤◌, ◌<◌, ◌-◌, ◌^◌, ◌⊎◌, ◌++◌, ◌∷◌, [], ℕ, List, min, length, take, IsTrue, IsSome, Some, None, Err, IfOk, OnOk, OnErr, IsErrOf, option_map, slice_index};
-ghost use Rattle.play_base.specs.View.{Unchanged, SameCounts, SameButReads, SameButWrites, Keeps, Any, IsFresh, Rose, Opened, Created, Took, Wrote, Said, ReadFault, WriteFault, IsMissed, IsAtEnd};
+ghost use Rattle.play_base.specs.View.{Unchanged, SameCounts, SameButReads, SameButWrites, Keeps, Everything, IsFresh, Rose, Opened, Created, Took, Wrote, Said, ReadFault, WriteFault, IsMissed, IsAtEnd};
 ghost use Rattle.memory_files.specs.Memory.{memory_view};
 ghost use Rattle.memory_files.specs.Planned.{Counted, IsSamePlan, is_due, made};
 
@@ -29,7 +29,7 @@ pub struct MemoryFiles {
 }
 
 impl MemoryFiles {
-    /// No name, no file, nothing said, every count 0, and no bound on a read or a write. Takes no memory.
+    /// No name, no file, nothing said, every count 0, and no bound on a read or a write. Does not allocate.
     pub fn new(alloc: Global) -> Self
         ensures names { (n : List ℕ) → (memory_view result).bytes n ≡ None }
         ensures fresh { IsFresh (memory_view result) }
@@ -58,7 +58,7 @@ impl MemoryFiles {
     /// left. After `NoMemory` nothing has changed. Takes a copy of the bytes.
     pub fn put(&mut self, name: &str, bytes: &[u8]) -> Result<(), NoMemory>
         ensures set { OnOk result ((memory_view self.new).bytes name.now ≡ Some bytes.now) }
-        ensures others { Keeps (λ n. n ≢ name.now) Any (memory_view self.old) (memory_view self.new) }
+        ensures others { Keeps (λ n. n ≢ name.now) Everything (memory_view self.old) (memory_view self.new) }
         ensures said { (memory_view self.new).said ≡ (memory_view self.old).said }
         ensures counts { SameCounts (memory_view self.old) (memory_view self.new) }
         ensures err { OnErr result (Unchanged (memory_view self.old) (memory_view self.new)) }
@@ -101,7 +101,7 @@ impl MemoryFiles {
         self.chunk = Chunk { most };
     }
 
-    /// Lets one `write` move at most `most` bytes, at least 1. Takes no memory.
+    /// Lets one `write` move at most `most` bytes, at least 1. Does not allocate.
     pub fn short_writes(&mut self, most: u32)
         requires { 1 ≤ most }
         ensures same { Unchanged (memory_view self.old) (memory_view self.new) }
@@ -113,7 +113,7 @@ impl MemoryFiles {
         self.short = Chunk { most };
     }
 
-    /// How many calls of this kind were made since `new`, those that failed too. Takes no memory.
+    /// How many calls of this kind were made since `new`, those that failed too. Does not allocate.
     pub fn calls(&self, call: Call) -> u64
         ensures { result ≡ made self.now call }
     {

@@ -1,6 +1,6 @@
 // Files in memory that never fail.
 ghost use Rattle.std.specs.Prelude.{◌≡◌, ◌≢◌, ◌≤◌, ◌<◌, ◌-◌, ◌^◌, ◌⊎◌, ℕ, List, [], min, length, take, IsSome, Some, None, IfOk, OnOk, OnErr, IsErrOf, option_map, unwrap_or};
-ghost use Rattle.play_base.specs.View.{Unchanged, SameCounts, Keeps, Any, IsFresh, Opened, Created, Took, Wrote, Said, WriteFault, IsAtEnd};
+ghost use Rattle.play_base.specs.View.{Unchanged, SameCounts, Keeps, Everything, IsFresh, Opened, Created, Took, Wrote, Said, WriteFault, IsAtEnd};
 ghost use Rattle.memory_files.specs.Memory.{bytes_under};
 ghost use Rattle.memory_files.specs.Steady.{HasSameBounds, IsCounted, steady_made, steady_view};
 ghost use Rattle.memory_files.specs.declared.planned.Call.{Call};
@@ -28,7 +28,7 @@ pub struct SteadyFiles {
 }
 
 impl SteadyFiles {
-    /// No file, nothing said, every name empty, no call made, and no bound on a read or a write. Takes no memory.
+    /// No file, nothing said, every name empty, no call made, and no bound on a read or a write. Does not allocate.
     pub fn new(alloc: Global) -> Self
         ensures none { (n : List ℕ) → bytes_under result.names n ≡ None }
         ensures names { (n : List ℕ) → (steady_view result).bytes n ≡ Some [] }
@@ -54,7 +54,7 @@ impl SteadyFiles {
     /// changed. Takes a copy of the bytes.
     pub fn put(&mut self, name: &str, bytes: &[u8]) -> Result<(), NoMemory>
         ensures set { OnOk result (bytes_under self.new.names name.now ≡ Some bytes.now) }
-        ensures others { Keeps (λ n. n ≢ name.now) Any (steady_view self.old) (steady_view self.new) }
+        ensures others { Keeps (λ n. n ≢ name.now) Everything (steady_view self.old) (steady_view self.new) }
         ensures said { (steady_view self.new).said ≡ (steady_view self.old).said }
         ensures err { OnErr result (Unchanged (steady_view self.old) (steady_view self.new)) }
         ensures made { (call : Call) → steady_made self.new call ≡ steady_made self.old call }
@@ -95,7 +95,7 @@ impl SteadyFiles {
         self.chunk = Chunk { most };
     }
 
-    /// Lets one `write` move at most `most` bytes, at least 1. Takes no memory.
+    /// Lets one `write` move at most `most` bytes, at least 1. Does not allocate.
     pub fn short_writes(&mut self, most: u32)
         requires { 1 ≤ most }
         ensures same { Unchanged (steady_view self.old) (steady_view self.new) }
@@ -106,7 +106,7 @@ impl SteadyFiles {
         self.short = Chunk { most };
     }
 
-    /// How many calls of this kind were made since `new`. Takes no memory.
+    /// How many calls of this kind were made since `new`. Does not allocate.
     pub fn calls(&self, call: Call) -> u64
         ensures { result ≡ steady_made self.now call }
     {

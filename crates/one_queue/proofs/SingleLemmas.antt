@@ -5,7 +5,7 @@ use Rattle.std.proofs.lemmas.Bool.{cases_eq}
 use Rattle.std.proofs.lemmas.Bool.Decides.{nat_tests}
 use Rattle.altq_model.specs.declared.Rule.{Rule}
 use Rattle.altq_model.specs.declared.Rule.TheVariants.{Share}
-use Rattle.altq_model.specs.History.{Arrival, Event, Happened, bare, waiting}
+use Rattle.altq_model.specs.History.{Arrival, Event, LabelledEvent, unlabelled, waiting}
 use Rattle.altq_model.specs.Lawful.{first_at}
 use Rattle.altq_model.specs.Play.{Choice, Policy, lesser}
 use Rattle.altq_model.specs.Policies.{Answering, first_waiting, strict}
@@ -18,10 +18,10 @@ use Rattle.discipline.specs.declared.pick.Pick.TheVariants.{Send, Wait, Empty}
 use Rattle.discipline.specs.declared.pick.Sending.{Sending}
 use Rattle.discipline.specs.Laws.{IsAnswer, IsDue, NamesHead, Waits, entry, offer_of, seen, seen_of, sent_of}
 use Rattle.discipline.specs.Moments.{IsChoice, IsOffer, IsOrderly, WasDue}
-use Rattle.class_rows.specs.Rows.{Answers, Rowed, SameRow, Told, answering, holding, limit_at, limits_of, list_in}
+use Rattle.class_rows.specs.Rows.{Answers, ClassQueuesView, SameRow, RowRepresents, answering, holding, limit_at, limits_of, list_in}
 use Rattle.class_rows.proofs.FrontLemmas.{front_shown}
 use Rattle.class_rows.proofs.RowHistory.{Offering, bare_arrival}
-use Rattle.one_queue.specs.Single.{IsSingle, Single, Stands, due_in, due_of, policy_of}
+use Rattle.one_queue.specs.Single.{IsSingle, Single, Represents, due_in, due_of, policy_of}
 
 -- the classes that hold packets, where one does
 none_hold : (c n : ℕ) → holding c (replicate n false) ≡ []
@@ -93,27 +93,27 @@ pub some_due : (lists : ℕ → List Entry) (class : ℕ) (t : Ticket) (c len : 
 some_due lists class t c len r e = let x = head_sent lists class t c len r e in has_front (lists c) (entry t len x.0) x.1
 
 module _ {Q : Type 0} (stands : Q → List QueueEvent → Type 0) (says : Q → Saying) where
-  what_is : (d : Single Q) (h : List Happened) (now : ℕ) → Stands stands says d h
-      → IsDueBy now (first_at (policy_of says d) now (bare h) (d.class ∷ [])) (first_waiting (d.class ∷ []) (bare h)) (due_of d)
-  what_is d h now s = due_case d.class now (list_in d.rows d.class) (waiting d.class (bare h)) (s.told.shown d.class).packets
+  what_is : (d : Single Q) (h : List LabelledEvent) (now : ℕ) → Represents stands says d h
+      → IsDueBy now (first_at (policy_of says d) now (unlabelled h) (d.class ∷ [])) (first_waiting (d.class ∷ []) (unlabelled h)) (due_of d)
+  what_is d h now s = due_case d.class now (list_in d.rows d.class) (waiting d.class (unlabelled h)) (s.recorded.shown d.class).packets
 
   -- what is due after a history is the policy's
-  pub due_of_policy : (d : Single Q) (h : List Happened) (now : ℕ) → Stands stands says d h → IsDue (policy_of says d) (bare h) now (due_of d)
-  due_of_policy d h now s = due_by d.class (answering says d.rows) now (bare h) (due_of d) (what_is d h now s)
+  pub due_of_policy : (d : Single Q) (h : List LabelledEvent) (now : ℕ) → Represents stands says d h → IsDue (policy_of says d) (unlabelled h) now (due_of d)
+  due_of_policy d h now s = due_by d.class (answering says d.rows) now (unlabelled h) (due_of d) (what_is d h now s)
 
   -- the policy of a row that answers alike
-  same_policy : (most : Q → ℕ) (d : Single Q) (rows : Rowed Q) → SameRow most says d.rows rows → policy_of says (record { class = d.class; rows = rows }) ≡ policy_of says d
+  same_policy : (most : Q → ℕ) (d : Single Q) (rows : ClassQueuesView Q) → SameRow most says d.rows rows → policy_of says (record { class = d.class; rows = rows }) ≡ policy_of says d
   same_policy most d rows s = ap (λ (a : Answering). strict (d.class ∷ []) Share a) s.answers
 
   -- a sending of what is due
-  pub sent_stands : (most : Q → ℕ) (d : Single Q) (rows : Rowed Q) (h : List Happened) (clock : Clock) (s : Sending) → SameRow most says d.rows rows → Stands stands says d h
-      → Told stands rows (sent_of s ∷ h) → due_of d ≡ Send s.ticket s.class s.len s.rule → IsChoice s.start clock (bare h)
-      → Stands stands says (record { class = d.class; rows = rows }) (sent_of s ∷ h)
-  sent_stands most d rows h clock s same k told due o =
-      let is = subst (λ (p : Pick). IsDue (policy_of says d) (bare h) s.start p) due (due_of_policy d h s.start k) in
+  pub sent_stands : (most : Q → ℕ) (d : Single Q) (rows : ClassQueuesView Q) (h : List LabelledEvent) (clock : Clock) (s : Sending) → SameRow most says d.rows rows → Represents stands says d h
+      → RowRepresents stands rows (sent_of s ∷ h) → due_of d ≡ Send s.ticket s.class s.len s.rule → IsChoice s.start clock (unlabelled h)
+      → Represents stands says (record { class = d.class; rows = rows }) (sent_of s ∷ h)
+  sent_stands most d rows h clock s same k recorded due o =
+      let is = subst (λ (p : Pick). IsDue (policy_of says d) (unlabelled h) s.start p) due (due_of_policy d h s.start k) in
       let x = head_sent (list_in d.rows) d.class s.ticket s.class s.len s.rule due in
-      let f = front_shown s.class (list_in d.rows s.class) h (entry s.ticket s.len x.0) (k.told.shown s.class) x.1 in
-      let was : WasDue (policy_of says d) (bare h) (record { class = s.class; len = s.len; rule = s.rule; start = s.start; end = s.end }) = record {
+      let f = front_shown s.class (list_in d.rows s.class) h (entry s.ticket s.len x.0) (k.recorded.shown s.class) x.1 in
+      let was : WasDue (policy_of says d) (unlabelled h) (record { class = s.class; len = s.len; rule = s.rule; start = s.start; end = s.end }) = record {
         packet = f.packet;
         front = f.front;
         len = f.len;
@@ -122,18 +122,18 @@ module _ {Q : Type 0} (stands : Q → List QueueEvent → Type 0) (says : Q → 
         first = is.0;
         pick = is.1;
       } in
-      let O : Policy → Type 0 = λ y. IsOrderly y (bare (sent_of s ∷ h)) in
-      record { told = told; orderly = subst O (sym (same_policy most d rows same)) (was, k.orderly) }
+      let O : Policy → Type 0 = λ y. IsOrderly y (unlabelled (sent_of s ∷ h)) in
+      record { recorded = recorded; orderly = subst O (sym (same_policy most d rows same)) (was, k.orderly) }
 
   -- an offer
-  pub offer_stands : (most : Q → ℕ) (d : Single Q) (rows : Rowed Q) (h : List Happened) (x : Offering)
-      → SameRow most says d.rows rows → Stands stands says d h → IsOffer (bare_arrival x) (bare h) → Answers stands says d.rows rows h x.class x.entry x.now x.words x.verdict x.after
-      → IsAnswer (policy_of says d) (bare h) x.words (bare_arrival x) x.verdict x.after
-      × Stands stands says (record { class = d.class; rows = rows }) (offer_of (policy_of says d) h x.entry.ticket x.words (bare_arrival x) ∷ h)
+  pub offer_stands : (most : Q → ℕ) (d : Single Q) (rows : ClassQueuesView Q) (h : List LabelledEvent) (x : Offering)
+      → SameRow most says d.rows rows → Represents stands says d h → IsOffer (bare_arrival x) (unlabelled h) → Answers stands says d.rows rows h x.class x.entry x.now x.words x.verdict x.after
+      → IsAnswer (policy_of says d) (unlabelled h) x.words (bare_arrival x) x.verdict x.after
+      × Represents stands says (record { class = d.class; rows = rows }) (offer_of (policy_of says d) h x.entry.ticket x.words (bare_arrival x) ∷ h)
   offer_stands most d rows h x same k o a =
-      let O : Policy → Type 0 = λ y. IsOrderly y (bare (offer_of (policy_of says d) h x.entry.ticket x.words (bare_arrival x) ∷ h)) in (
+      let O : Policy → Type 0 = λ y. IsOrderly y (unlabelled (offer_of (policy_of says d) h x.entry.ticket x.words (bare_arrival x) ∷ h)) in (
         record { verdict = a.verdict; words = a.words },
-        record { told = a.told; orderly = subst O (sym (same_policy most d rows same)) (o, refl, k.orderly) },
+        record { recorded = a.recorded; orderly = subst O (sym (same_policy most d rows same)) (o, refl, k.orderly) },
       )
 
 -- the limit of the class that holds packets
@@ -149,13 +149,13 @@ one_limit most c (q ∷ queues) (suc k) class l e =
     ap (λ (b : Bool). cond b 0 (limit_at (c + 1) rest class)) other ∙ one_limit most (c + 1) queues k class (omega arith) (omega (arith, e))
 
 -- a new one
-pub new_single : {Q : Type 0} (stands : Q → List QueueEvent → Type 0) (class : ℕ) (d : Rowed Q) → class < length d.queues → d.first ≡ 0
-    → d.holds ≡ set (replicate (length d.queues) false) class true → Told stands d [] → IsSingle class d
-new_single stands class d low first holds told = record {
+pub new_single : {Q : Type 0} (stands : Q → List QueueEvent → Type 0) (class : ℕ) (d : ClassQueuesView Q) → class < length d.queues → d.first ≡ 0
+    → d.holds ≡ set (replicate (length d.queues) false) class true → RowRepresents stands d [] → IsSingle class d
+new_single stands class d low first holds recorded = record {
   classes = ap (λ (n : ℕ). holding n d.holds) first ∙ ap (holding 0) holds ∙ one_holds 0 (length d.queues) class class low (omega arith);
   low = omega (arith, first);
   high = omega (arith, first, low);
-  others = λ c n. none_seen (list_in d c) (told.shown c).packets;
+  others = λ c n. none_seen (list_in d c) (recorded.shown c).packets;
 }
   where
     none_seen : (xs : List Entry) → seen xs ≡ [] → xs ≡ []

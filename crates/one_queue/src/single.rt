@@ -3,10 +3,10 @@ ghost use Rattle.std.specs.Prelude.{◌≡◌, ◌≤◌, ◌<◌, ◌+◌, ◌^
 ghost use Rattle.altq_model.specs.declared.Rule.{Rule};
 ghost use Rattle.altq_model.specs.Policies.{strict};
 ghost use Rattle.leaf_queue.specs.Queue.{by_queues};
-ghost use Rattle.class_rows.specs.Rows.{IsNew, list_in};
-ghost use Rattle.one_queue.specs.Single.{IsSingle, Single, Stands, due_in, due_of, policy_of};
+ghost use Rattle.class_rows.specs.Rows.{IsNewQueue, list_in};
+ghost use Rattle.one_queue.specs.Single.{IsSingle, Single, Represents, due_in, due_of, policy_of};
 
-use class_rows::Rows;
+use class_rows::ClassQueues;
 use discipline::{Discipline, Pick, Rule, Sending, Verdict};
 use leaf_queue::{Entry, QueueRule, Words};
 use link_clock::LinkClock;
@@ -18,7 +18,7 @@ use std::marker::Model;
 #[derive(Drop)]
 pub struct OneQueue<Q: QueueRule + Drop> {
     class: u32,
-    rows: Rows<Q>,
+    rows: ClassQueues<Q>,
 }
 
 impl<Q: QueueRule + Drop> Model for OneQueue<Q> {
@@ -30,7 +30,7 @@ impl<Q: QueueRule + Drop> Model for OneQueue<Q> {
 }
 
 // The head of the class's list is sent.
-fn head_of<Q: QueueRule + Drop>(rows: &Rows<Q>, class: u32) -> Pick
+fn head_of<Q: QueueRule + Drop>(rows: &ClassQueues<Q>, class: u32) -> Pick
     requires low { rows.now.first ≤ class }
     requires high { class < rows.now.first + length rows.now.queues }
     ensures { result ≡ due_in class (list_in rows.now class) }
@@ -63,44 +63,39 @@ impl<Q: QueueRule + Drop> OneQueue<Q> {
     pub fn build(alloc: Global, class: u32, queues: Vec<Q>) -> Result<OneQueue<Q>, NoMemory>
         requires class { class < length queues.items }
         requires most { length queues.items ≤ 256 }
-        requires queues { All (IsNew Q.stands Q.most) queues.items }
-        ensures empty { IfOk result (λ d. ⟦<OneQueue<Q> as Discipline>⟧.stands d []) }
-        ensures policy { IfOk result (λ d. ⟦<OneQueue<Q> as Discipline>⟧.policy d
+        requires queues { All (IsNewQueue Q.stands Q.most) queues.items }
+        ensures empty { IfOk result (λ d. (⟦<OneQueue<Q> as Discipline>⟧.view d).represents []) }
+        ensures policy { IfOk result (λ d. (⟦<OneQueue<Q> as Discipline>⟧.view d).policy
             ≡ strict (class ∷ []) Rule.Share (by_queues 0 (map Q.says queues.items))) }
-        ensures limit { IfOk result (λ d. ⟦<OneQueue<Q> as Discipline>⟧.limits d class ≡ slice_index (map Q.most queues.items) class) }
+        ensures limit { IfOk result (λ d. (⟦<OneQueue<Q> as Discipline>⟧.view d).limits class ≡ slice_index (map Q.most queues.items) class) }
     {
         let holds = one_of(alloc, queues.len(), class)?;
-        let rows = Rows::build(alloc, 0, queues, holds)?;
+        let rows = ClassQueues::build(alloc, 0, queues, holds)?;
         Ok(OneQueue { class, rows })
     }
 }
 
 impl<Q: QueueRule + Drop> Discipline for OneQueue<Q> {
-    ghost use Rattle.std.specs.Prelude.{None};
+    ghost use Rattle.std.specs.Prelude.{[], None};
     ghost use Rattle.altq_model.specs.declared.Rule.TheVariants.{Share};
-    ghost use Rattle.altq_model.specs.History.{bare, offered};
+    ghost use Rattle.altq_model.specs.History.{unlabelled, offered};
     ghost use Rattle.altq_model.specs.Link.{link};
     ghost use Rattle.class_rows.specs.Rows.{answering, limit_in};
     ghost use Rattle.class_rows.proofs.RowLemmas.{holding_distinct, none_is_least};
     ghost use Rattle.play_laws.proofs.StrictLemmas.{steady, strict_lawful, strict_never_waits};
 
-    ghost lists = { λ d. list_in d.rows };
-
-    ghost limits = { λ d. limit_in Q.most d.rows };
-
-    ghost stands = { λ d h. Stands Q.stands Q.says d h };
-
-    ghost due = { λ d clock now. due_of d };
-
-    ghost policy = { λ d. policy_of Q.says d };
-
-    ghost link_rate = { λ d. None };
-
-    ghost given = { λ d. 0 };
-
-    ghost moment = { λ d. 0 };
-
-    ghost ended = { λ d. 0 };
+    ghost view = { λ d. record {
+      policy = policy_of Q.says d;
+      limits = limit_in Q.most d.rows;
+      link_rate = None;
+      fixed = [];
+      lists = list_in d.rows;
+      represents = λ h. Represents Q.stands Q.says d h;
+      due = λ clock now. due_of d;
+      given = 0;
+      moment = 0;
+      ended = 0;
+    } };
 
     fn room(&self) -> u32 {
         self.rows.room()
@@ -127,13 +122,13 @@ impl<Q: QueueRule + Drop> Discipline for OneQueue<Q> {
         self.rows.take(sending.class, sending.start);
     }
 
-    ghost shows = { λ d h s. s.told.shown };
+    ghost shows = { λ d h s. s.recorded.shown };
 
-    ghost counts = { λ d h s. none_is_least (offered (bare h)) };
+    ghost counts = { λ d h s. none_is_least (offered (unlabelled h)) };
 
     ghost moments = { λ d h s t l b. none_is_least t };
 
-    ghost ends = { λ d h s r l. none_is_least (link r (bare h)).free };
+    ghost ends = { λ d h s r l. none_is_least (link r (unlabelled h)).free };
 
     ghost distinct = { λ d h s. holding_distinct d.class (true ∷ []) };
 

@@ -22,7 +22,8 @@ datagram_flow tos ports = V4 (record { tos = tos; protocol = 17; source = 10 ∷
 -- one whose header has a sixth word, of options that do nothing (RFC 791)
 abbrev pub datagram_with_options : (checksum : ℕ) → List ℕ
 datagram_with_options checksum =
-    0x0800 ∷ 0x4628 ∷ 0x00fc ∷ 0x0000 ∷ 0x0000 ∷ 0x4011 ∷ checksum ∷ 0x0a00 ∷ 0x0001 ∷ 0x0a00 ∷ 0x0002 ∷ 0x0101 ∷ 0x0101 ∷ 0x0403 ∷ 0x1389 ∷ 0x00e4 ∷ 0x0000 ∷ []
+    0x0800 ∷ 0x4628 ∷ 0x00fc ∷ 0x0000 ∷ 0x0000 ∷ 0x4011 ∷ checksum ∷ 0x0a00 ∷ 0x0001 ∷ 0x0a00 ∷ 0x0002 ∷ 0x0101 ∷ 0x0101 ∷ 0x0403 ∷ 0x1389 ∷ 0x00e4 ∷
+    0x0000 ∷ []
 
 -- the beginning of a segment of TCP over IPv6, with this first word
 abbrev pub segment : (first_word : ℕ) → List ℕ

@@ -44,7 +44,7 @@ const UDP: u8 = 17;
 /// The flow of a frame, whose bytes begin with the target's address of Ethernet. At most two tags are passed. A header of
 /// IPv4 has at least 20 bytes, says version 4 and at least five words; one of IPv6 has 40 bytes and says version 6; any
 /// other frame is `Other`. The ports are there where the protocol is TCP or UDP, the packet is no later fragment, and all
-/// four bytes of both stand behind the header. Constant time; takes no memory. See RFC 791, RFC 8200 and IEEE 802.1Q.
+/// four bytes of both stand behind the header. Constant time; does not allocate. See RFC 791, RFC 8200 and IEEE 802.1Q.
 #[inline(always)]
 pub fn flow(frame: &[u8]) -> FlowHeads<'_>
     ensures value { flow_of result ≡ flow frame.now }
@@ -70,7 +70,7 @@ fn flow_behind_tags(frame: &[u8]) -> FlowHeads<'_>
 }
 
 /// The type of service or traffic class in the flow of a frame, 0 where that is `Other`. Nothing else of the flow is read.
-/// Constant time; takes no memory.
+/// Constant time; does not allocate.
 pub fn tos(frame: &[u8]) -> u8
     ensures { result ≡ tos_of (flow frame.now) }
 {

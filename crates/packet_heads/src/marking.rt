@@ -8,7 +8,7 @@ use crate::heads::{FlowHeads, flow, packet_place, tos, two_at};
 
 /// Gives a frame the type of service, or traffic class, `tos`. A frame whose flow is `Other`, or that has it already, stays
 /// as it is. In IPv4 the header's checksum follows; whether it was right is not looked at, and one that was wrong stays wrong.
-/// All other bytes stay. Constant time; takes no memory. See RFC 2474, RFC 3168 and RFC 1624.
+/// All other bytes stay. Constant time; does not allocate. See RFC 2474, RFC 3168 and RFC 1624.
 pub fn retag(frame: &mut [u8], tos: u8)
     ensures value { frame.new ≡ retagged frame.old tos }
     ensures long { length frame.new ≡ length frame.old }
@@ -88,7 +88,7 @@ fn set_two(bytes: &mut [u8], at: usize, word: u16)
 
 /// Leaves a frame as its packet departs: with the code point cleared if `clear`, as in a class with `cleardscp`, and then,
 /// if `marked`, with both bits of explicit congestion notification set. A frame whose flow is `Other` stays as it is, and
-/// each keeps its length. Constant time; takes no memory. See RFC 2474 and RFC 3168.
+/// each keeps its length. Constant time; does not allocate. See RFC 2474 and RFC 3168.
 pub fn dress(frame: &mut [u8], clear: bool, marked: bool)
     ensures value { frame.new ≡ departing clear marked frame.old }
     ensures long { length frame.new ≡ length frame.old }

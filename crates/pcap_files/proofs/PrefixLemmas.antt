@@ -12,7 +12,7 @@ use Rattle.capture_model.proofs.OutcomeLemmas.{next_place}
 use Rattle.pcap_files.specs.Ahead.{TookInto}
 use Rattle.pcap_files.specs.Faults.{fault_of}
 use Rattle.pcap_files.specs.Forms.{form}
-use Rattle.pcap_files.specs.Reading.{AreAllTaken, StandsFor}
+use Rattle.pcap_files.specs.Reading.{AreAllTaken, Represents}
 use Rattle.pcap_files.specs.Stand.{stand_at, step_of}
 use Rattle.pcap_files.specs.declared.stand.Stand.{Stand as Stands}
 use Rattle.pcap_files.specs.declared.stand.Stand.TheVariants as stands
@@ -110,7 +110,7 @@ is_last (Fault d) h = tt
 is_last Limit h = tt
 
 -- a read that failed while a record was not whole
-pub all_taken : (v w : View) (r : Reader) (ahead bytes : List ℕ) (records : List capture.Record) → StandsFor v r bytes records → r.fault ≡ None
+pub all_taken : (v w : View) (r : Reader) (ahead bytes : List ℕ) (records : List capture.Record) → Represents v r bytes records → r.fault ≡ None
     → TookInto v w r.file r.ahead.waiting ahead
     → ((x : capture.Record) (n : ℕ) → step (form r.head) bytes (length records) (place_after 24 records) ≡ Next x n → place_after 24 records + length ahead < n)
     → AreAllTaken w r.file bytes records
@@ -160,14 +160,14 @@ none_taken v w file first before ahead rest taken h t short =
     }
 
 -- what was needed of the record that stands there, a header at least, was not there
-pub part_taken : (v w : View) (r : Reader) (ahead bytes : List ℕ) (records : List capture.Record) → StandsFor v r bytes records → r.fault ≡ None
+pub part_taken : (v w : View) (r : Reader) (ahead bytes : List ℕ) (records : List capture.Record) → Represents v r bytes records → r.fault ≡ None
     → TookInto v w r.file r.ahead.waiting ahead → length ahead < 16 → AreAllTaken w r.file bytes records
 part_taken v w r ahead bytes records s sound t fewer =
     all_taken v w r ahead bytes records s sound t (λ x n h.
     let place = (next_place (form r.head) bytes (length records) (place_after 24 records) x n h).0 in
     omega (arith, place, fewer))
 
-pub headed_taken : (v w : View) (r : Reader) (ahead bytes : List ℕ) (records : List capture.Record) (h : Head) → StandsFor v r bytes records → r.fault ≡ None
+pub headed_taken : (v w : View) (r : Reader) (ahead bytes : List ℕ) (records : List capture.Record) (h : Head) → Represents v r bytes records → r.fault ≡ None
     → TookInto v w r.file r.ahead.waiting ahead → StandsHead r bytes records h → length ahead < 16 + h.captured → AreAllTaken w r.file bytes records
 headed_taken v w r ahead bytes records h s sound t here fewer =
     all_taken v w r ahead bytes records s sound t (λ x n e.

@@ -5,14 +5,14 @@ use Rattle.std.specs.declared.option.Option.{Option}
 use Rattle.std.specs.Int.{w16, from_be_bytes, from_le_bytes}
 use Rattle.std.proofs.lemmas.List.{drop-append-le, drop-drop, drop-take, length-take}
 use Rattle.std.proofs.Math.Seq.{drop-append-add}
-use Rattle.play_base.specs.View.{View, Any, IsAtEnd, Took, Unchanged}
+use Rattle.play_base.specs.View.{View, Everything, IsAtEnd, Took, Unchanged}
 use Rattle.play_base.proofs.ViewLaws.{keeps_fewer, keeps_trans, part_of_there, still_there, took_more}
 use Rattle.capture_model.specs.declared.damage.DamageKind.TheVariants.{ShortRecord}
 use Rattle.capture_model.specs.Capture.{Form, Step, Next, Fault, Stand, Formed, Unformed, Header, half, word, header, header_in, form_of, damage, step, place_after, Reads, ReadsFrom, ReadsAs}
 use Rattle.capture_model.specs.Capture as capture
-use Rattle.pcap_files.specs.Ahead.{Held, Pending, TookInto, TookSome, last}
+use Rattle.pcap_files.specs.Ahead.{HeldBytes, Pending, TookInto, TookSome, last}
 use Rattle.pcap_files.specs.Forms.{form}
-use Rattle.pcap_files.specs.Reading.{StandsFor, Shows, IsTaken, told_by, IsCut, IsCause, ReadsTo}
+use Rattle.pcap_files.specs.Reading.{Represents, Shows, IsTaken, told_by, IsCut, IsCause, ReadsTo}
 use Rattle.pcap_files.specs.Stand.{stand_at, step_of}
 use Rattle.pcap_files.specs.declared.stand.Stand.{Stand as Stands}
 use Rattle.pcap_files.specs.declared.stand.Stand.TheVariants.{Headed}
@@ -49,7 +49,7 @@ took_unchanged a b c file xs there x y =
     let p = part_of_there (b.part file) (still_there _ _ a b file x.keeps there) in
     record {
       left = λ all h. let one = x.left all h in (one.0, one.1, y.keeps.left file p.0 p.1 tt ∙ one.2);
-      keeps = keeps_trans Any (λ f. f ≢ file) a b c x.keeps (keeps_fewer Any Any Any (λ f. f ≢ file) b c (λ n h. h) (λ f h. tt) y.keeps);
+      keeps = keeps_trans Everything (λ f. f ≢ file) a b c x.keeps (keeps_fewer Everything Everything Everything (λ f. f ≢ file) b c (λ n h. h) (λ f h. tt) y.keeps);
       none = λ f h. y.none f (x.none f h);
       said = y.said ∙ x.said;
     }
@@ -120,7 +120,7 @@ pub reads_formed : (f : Form) (bytes : List ℕ) (records : List capture.Record)
 reads_formed f bytes records last e x = subst (λ (h : Header). ReadsFrom h bytes records last) (sym e) x
 
 -- what stands after the records answered, by the bytes taken there
-pub stands_step : (v w : View) (r : Reader) (ahead bytes : List ℕ) (records : List capture.Record) → StandsFor v r bytes records
+pub stands_step : (v w : View) (r : Reader) (ahead bytes : List ℕ) (records : List capture.Record) → Represents v r bytes records
     → r.fault ≡ None → TookInto v w r.file r.ahead.waiting ahead → (16 ≤ length ahead) ⊎ IsAtEnd w r.file
     → step (form r.head) bytes (length records) (place_after 24 records)
     ≡ step_of (stand_at (form r.head) r.progress.count r.progress.place ahead) r.progress.place (drop r.progress.place bytes)
@@ -132,7 +132,7 @@ stands_step v w r ahead bytes records s sound t enough =
     ∙ ap (λ (n : ℕ). step (form r.head) bytes r.progress.count n) (sym s.place) ∙ here
 
 -- so the reading ends there
-pub stands_reads : (v : View) (r : Reader) (bytes : List ℕ) (records : List capture.Record) (last : Step) → StandsFor v r bytes records
+pub stands_reads : (v : View) (r : Reader) (bytes : List ℕ) (records : List capture.Record) (last : Step) → Represents v r bytes records
     → step (form r.head) bytes (length records) (place_after 24 records) ≡ last → Reads bytes records last
 stands_reads v r bytes records last s e = reads_formed (form r.head) bytes records last s.formed (record { stand = s.stand; ended = e })
 
@@ -149,10 +149,10 @@ pending_same v f f' at at' ahead ahead' bytes ef ep ea p = record {
 }
 
 -- a reader that came no further
-pub stands_with : (v w : View) (r n : Reader) (bytes : List ℕ) (records : List capture.Record) → StandsFor v r bytes records
+pub stands_with : (v w : View) (r n : Reader) (bytes : List ℕ) (records : List capture.Record) → Represents v r bytes records
     → n.head ≡ r.head → n.progress ≡ r.progress → (n.fault ≡ None → Pending w n.file n.progress.place n.ahead.waiting bytes)
     → (n.fault ≡ None → length n.ahead.waiting ≤ 65535) → IsCause n.fault (step (form r.head) bytes (length records) (place_after 24 records))
-    → StandsFor w n bytes records
+    → Represents w n bytes records
 stands_with v w r n bytes records s eh ep pending ahead cause = record {
   formed = s.formed ∙ ap (λ h. Formed (form h)) (sym eh);
   stand = subst (λ h. Stand (form h) bytes 0 24 records) (sym eh) s.stand;
@@ -164,7 +164,7 @@ stands_with v w r n bytes records s eh ep pending ahead cause = record {
 }
 
 -- a fault that the bytes tell is what stands there
-pub cause_of : (v : View) (r : Reader) (bytes : List ℕ) (records : List capture.Record) (f : CaptureFault) → StandsFor v r bytes records
+pub cause_of : (v : View) (r : Reader) (bytes : List ℕ) (records : List capture.Record) (f : CaptureFault) → Represents v r bytes records
     → ReadsTo f bytes records → IsCause (Some f) (step (form r.head) bytes (length records) (place_after 24 records))
 cause_of v r bytes records (fault.Damage found) s x = (reads_back (form r.head) bytes records (Fault found) s.formed x).ended
 cause_of v r bytes records fault.Limit s x = (reads_back (form r.head) bytes records capture.Limit s.formed x).ended
@@ -172,7 +172,7 @@ cause_of v r bytes records fault.Read s x = tt
 cause_of v r bytes records fault.NoMemory s x = tt
 
 -- and the other way round
-pub cause_reads : (v : View) (r : Reader) (bytes : List ℕ) (records : List capture.Record) (f : CaptureFault) → StandsFor v r bytes records
+pub cause_reads : (v : View) (r : Reader) (bytes : List ℕ) (records : List capture.Record) (f : CaptureFault) → Represents v r bytes records
     → r.fault ≡ Some f → ReadsTo f bytes records
 cause_reads v r bytes records (fault.Damage found) s e =
     stands_reads v r bytes records (Fault found) s (subst (λ q. IsCause q (step (form r.head) bytes (length records) (place_after 24 records))) e s.cause)
@@ -182,7 +182,7 @@ cause_reads v r bytes records fault.Read s e = tt
 cause_reads v r bytes records fault.NoMemory s e = tt
 
 -- the reader with other bytes ahead
-abbrev pub holding : Reader → Held → Reader
+abbrev pub holding : Reader → HeldBytes → Reader
 holding r held = record { file = r.file; head = r.head; progress = r.progress; ahead = held; fault = r.fault }
 
 -- the head of a record: its stamp, how many bytes were captured, and how many the packet had
@@ -199,7 +199,7 @@ StandsHead r bytes records h =
 
 -- a record whose head was taken is not whole
 pub cut_reads : (v w : View) (r : Reader) (ahead bytes : List ℕ) (records : List capture.Record) (h : Head) (f : CaptureFault)
-    → StandsFor v r bytes records → r.fault ≡ None → TookInto v w r.file r.ahead.waiting ahead → StandsHead r bytes records h
+    → Represents v r bytes records → r.fault ≡ None → TookInto v w r.file r.ahead.waiting ahead → StandsHead r bytes records h
     → (16 + h.captured ≤ length ahead) ⊎ IsAtEnd w r.file → IsCut f r.progress.place ahead h.captured → ReadsTo f bytes records
 cut_reads v w r ahead bytes records h (fault.Damage found) s sound t here enough cut =
     let p = pending_took v w r.file r.progress.place r.ahead.waiting ahead bytes (s.pending sound) t in
@@ -224,10 +224,10 @@ last_passed before ahead count enough =
     ap (λ (n : ℕ). drop n (before ++ front)) long ∙ drop-append-add before front 16 ∙ drop-take 16 count ahead
 
 -- a whole record is found
-pub answered : (v w : View) (r n : Reader) (found : Found) (held : Held) (bytes : List ℕ) (records : List capture.Record) (h : Head)
-    → StandsFor v r bytes records → r.fault ≡ None → TookInto v w r.file r.ahead.waiting held.waiting → StandsHead r bytes records h
+pub answered : (v w : View) (r n : Reader) (found : Found) (held : HeldBytes) (bytes : List ℕ) (records : List capture.Record) (h : Head)
+    → Represents v r bytes records → r.fault ≡ None → TookInto v w r.file r.ahead.waiting held.waiting → StandsHead r bytes records h
     → length held.waiting ≤ 65535 + (16 + h.captured) → IsTaken (holding r held) n found h.stamp h.captured h.original
-    → (x : capture.Record) × Shows (told_by n found) (length records) x × StandsFor w n bytes (records ++ x ∷ [])
+    → (x : capture.Record) × Shows (told_by n found) (length records) x × Represents w n bytes (records ++ x ∷ [])
 answered v w r n found held bytes records h s sound t here bound k =
     let captured : ℕ = h.captured in
     let ahead : List ℕ = held.waiting in
@@ -260,7 +260,7 @@ answered v w r n found held bytes records h s sound t here bound k =
     )
 
 -- the same by what the code found in the bytes ahead
-pub stands_at : (v w : View) (r : Reader) (ahead found bytes : List ℕ) (records : List capture.Record) (q : Stands) → StandsFor v r bytes records
+pub stands_at : (v w : View) (r : Reader) (ahead found bytes : List ℕ) (records : List capture.Record) (q : Stands) → Represents v r bytes records
     → r.fault ≡ None → TookInto v w r.file r.ahead.waiting ahead → (16 ≤ length ahead) ⊎ IsAtEnd w r.file
     → found ≡ ahead → q ≡ stand_at (form r.head) r.progress.count r.progress.place found
     → step (form r.head) bytes (length records) (place_after 24 records) ≡ step_of q r.progress.place (drop r.progress.place bytes)
@@ -280,7 +280,7 @@ started_head v w file first before ahead found rest taken h t enough same =
 -- a reader that has read the head and passed it
 pub started : (v w : View) (n : Reader) (first before ahead rest : List ℕ) → before ≡ first → v.left n.file ≡ Some rest
     → TookInto v w n.file before ahead → 24 ≤ length ahead → length ahead ≤ 65559 → n.ahead.waiting ≡ drop 24 ahead → n.progress.count ≡ 0
-    → n.progress.place ≡ 24 → n.fault ≡ None → header (first ++ rest) ≡ Formed (form n.head) → StandsFor w n (first ++ rest) []
+    → n.progress.place ≡ 24 → n.fault ≡ None → header (first ++ rest) ≡ Formed (form n.head) → Represents w n (first ++ rest) []
 started v w n first before ahead rest taken h t enough bound passed count place sound formed =
     let bytes = first ++ rest in
     let p = pending_took v w n.file 0 before ahead bytes (pending_start v n.file first before rest taken h) t in

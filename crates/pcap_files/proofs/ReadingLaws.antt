@@ -6,7 +6,7 @@ use Rattle.play_base.proofs.ViewLaws.{still_there, part_of_there}
 use Rattle.capture_model.specs.Capture.{Form, Record, Step, End, Next, Fault, Limit, Header, step, Stand, place_after, IsLast, ReadsAs, ReadsFrom, Reads, Unformed, Formed, header}
 use Rattle.pcap_files.specs.Ahead.{TookSome}
 use Rattle.pcap_files.specs.Forms.{form}
-use Rattle.pcap_files.specs.Reading.{StandsFor}
+use Rattle.pcap_files.specs.Reading.{Represents}
 use Rattle.pcap_files.specs.declared.reader.Reader.{Reader}
 
 -- every file that was there is there after bytes were taken
@@ -15,7 +15,7 @@ there_after v w file f x there = still_there _ _ v w f x.1.keeps there
 
 -- calls that leave what the reader's file has left leave what the reader stands for
 pub stands_kept : (N : List ℕ → Type 0) (F : ℕ → Type 0) (v w : View) (r : Reader) (bytes : List ℕ) (records : List Record)
-    → StandsFor v r bytes records → IsSome (v.part r.file) → F r.file → Keeps N F v w → StandsFor w r bytes records
+    → Represents v r bytes records → IsSome (v.part r.file) → F r.file → Keeps N F v w → Represents w r bytes records
 stands_kept N F v w r bytes records s there kept k =
     let p = part_of_there (v.part r.file) there in
     record {
@@ -34,7 +34,7 @@ same_some : (xs ys : List ℕ) → Some xs ≡ Some ys → xs ≡ ys
 same_some xs ys h = cc
 
 -- the bytes that were taken end at most 65,536 bytes past the last record answered
-pub taken : (v : View) (r : Reader) (bytes rest : List ℕ) (records : List Record) → StandsFor v r bytes records → r.fault ≡ None
+pub taken : (v : View) (r : Reader) (bytes rest : List ℕ) (records : List Record) → Represents v r bytes records → r.fault ≡ None
     → v.left r.file ≡ Some rest → length bytes ≤ place_after 24 records + 65536 + length rest
 taken v r bytes rest records s sound left =
     let x = s.pending sound in
@@ -70,7 +70,7 @@ stand_front f bytes count at (x ∷ xs) (y ∷ ys) last a b e h =
     (rest.0, ap (λ (r : Record). r ∷ ys) same ∙ ap (λ (rs : List Record). x ∷ rs) rest.1)
 
 -- the records answered are a front of the complete records
-pub answered_front : (v : View) (r : Reader) (bytes : List ℕ) (records all : List Record) (last : Step) → StandsFor v r bytes records
+pub answered_front : (v : View) (r : Reader) (bytes : List ℕ) (records all : List Record) (last : Step) → Represents v r bytes records
     → Reads bytes all last → IsLast last → (rest : List Record) × (all ≡ records ++ rest)
 answered_front v r bytes records all last s x h =
     let y : ReadsAs (form r.head) bytes all last = subst (λ (found : Header). ReadsFrom found bytes all last) s.formed x in

@@ -5,7 +5,7 @@ use Rattle.std.proofs.lemmas.Nat.{from_le_bytes-to_le_bytes_4}
 use Rattle.capture_model.specs.Capture.{Form, Record, Next, End, Stand, word, stamp, step, place_after, longest, most_records, most_bytes, IsCapture}
 use Rattle.capture_model.specs.Header.{capture_header, record_header}
 use Rattle.pcap_files.specs.Stand.{stand_at, step_of}
-use Rattle.capture_model.specs.Written.{record_text, record_texts, written, IsWithin, AreWithin}
+use Rattle.capture_model.specs.Written.{record_text, record_texts, written, FitsCapture, AreWithin}
 use Rattle.pcap_files.specs.declared.stand.Stand.TheVariants.{Headed}
 use Rattle.pcap_files.proofs.PlaceLemmas.{step_here}
 use Rattle.pcap_files.proofs.ReaderLemmas.{head_seen, reads_formed}
@@ -83,7 +83,7 @@ at_end : (f : Form) (bytes : List ℕ) (count at : ℕ) → length bytes ≡ at 
 at_end f bytes count at e = let none : nat_le (length bytes) at ≡ true = grind (arith, e) in rw none refl
 
 -- the step at a written record
-step_written : (pre rest : List ℕ) (r : Record) (count : ℕ) → IsWithin r → count < most_records → length pre + 16 + length r.captured ≤ most_bytes
+step_written : (pre rest : List ℕ) (r : Record) (count : ℕ) → FitsCapture r → count < most_records → length pre + 16 + length r.captured ≤ most_bytes
     → step written_form (pre ++ (record_text r ++ rest)) count (length pre) ≡ Next r (length pre + 16 + length r.captured)
 step_written pre rest r count h hc room =
     let hd = record_header r.stamp (length r.captured) r.original in
@@ -96,7 +96,7 @@ step_written pre rest r count h hc room =
     ∙ whole_next hd r rest (length pre) refl
 
 -- so do all
-stand_written : (pre : List ℕ) (count : ℕ) (rs : List Record) → All IsWithin rs → count + length rs ≤ most_records
+stand_written : (pre : List ℕ) (count : ℕ) (rs : List Record) → All FitsCapture rs → count + length rs ≤ most_records
     → length (pre ++ record_texts rs) ≤ most_bytes
     → Stand written_form (pre ++ record_texts rs) count (length pre) rs
     × (step written_form (pre ++ record_texts rs) (count + length rs) (place_after (length pre) rs) ≡ End)

@@ -3,7 +3,7 @@ use Rattle.std.specs.Prelude.{◌≡◌, ◌≤◌, ◌<◌, ◌-◌, ℕ, List,
 use Rattle.play_base.specs.View.{View, Took}
 
 -- the bytes of a file that are held: those that were passed, and those behind them
-pub record Held : Type 0 where
+pub record HeldBytes : Type 0 where
   pub passed : List ℕ
   pub waiting : List ℕ
 

@@ -16,18 +16,18 @@ use Rattle.pcap_files.specs.declared.record.Found.{Found}
 use Rattle.pcap_files.specs.declared.record.Record.{Record}
 
 -- what is told of a record
-pub record Told : Type 0 where
+pub record RecordTold : Type 0 where
   pub number : ℕ
   pub stamp : ℕ
   pub len : ℕ
   pub bytes : List ℕ
 
 -- by a record that is lent
-abbrev pub told_of : Record → Told
+abbrev pub told_of : Record → RecordTold
 told_of r = record { number = r.number; stamp = r.stamp; len = r.len; bytes = r.bytes.now }
 
 -- by a reader that found it: its bytes are those that were passed last
-abbrev pub told_by : Reader → Found → Told
+abbrev pub told_by : Reader → Found → RecordTold
 told_by r found = record { number = found.number; stamp = found.stamp; len = found.len; bytes = last found.captured r.ahead.passed }
 
 -- the reader has the bytes of a record that was found
@@ -35,7 +35,7 @@ abbrev pub Holds : Reader → Found → Type 0
 Holds r found = found.captured ≤ length r.ahead.passed
 
 -- the answer shows this record of the capture, the one after `count` others; its length is the greater of the two
-pub record Shows (answer : Told) (count : ℕ) (r : capture.Record) : Type 0 where
+pub record Shows (answer : RecordTold) (count : ℕ) (r : capture.Record) : Type 0 where
   pub number : answer.number ≡ count + 1
   pub stamp : answer.stamp ≡ r.stamp
   pub len : answer.len ≡ max r.original (length r.captured)
@@ -50,7 +50,7 @@ IsCause (Some fault.Read) stands = Unit {0}
 IsCause (Some fault.NoMemory) stands = Unit {0}
 
 -- the reader's file had these bytes left at the start, and these records were answered, the first complete ones
-pub record StandsFor (v : View) (r : Reader) (bytes : List ℕ) (records : List capture.Record) : Type 0 where
+pub record Represents (v : View) (r : Reader) (bytes : List ℕ) (records : List capture.Record) : Type 0 where
   pub formed : header bytes ≡ Formed (form r.head)
   pub stand : Stand (form r.head) bytes 0 24 records
   pub count : r.progress.count ≡ length records
@@ -61,27 +61,27 @@ pub record StandsFor (v : View) (r : Reader) (bytes : List ℕ) (records : List 
   pub cause : IsCause r.fault (step (form r.head) bytes (length records) (place_after 24 records))
 
 -- a record was answered: the one that follows those answered before
-abbrev pub Answers : View → View → Reader → Reader → Told → Type 0
-Answers old_view new_view old new answer = (bytes : List ℕ) (records : List capture.Record) → StandsFor old_view old bytes records
-    → (r : capture.Record) × Shows answer (length records) r × StandsFor new_view new bytes (records ++ r ∷ [])
+abbrev pub Answers : View → View → Reader → Reader → RecordTold → Type 0
+Answers old_view new_view old new answer = (bytes : List ℕ) (records : List capture.Record) → Represents old_view old bytes records
+    → (r : capture.Record) × Shows answer (length records) r × Represents new_view new bytes (records ++ r ∷ [])
 
 -- how many records a reader has answered
 abbrev pub answered : Reader → ℕ
 answered r = r.progress.count
 
 -- the answer is the next by number, whether or not the file tells its bytes
-pub record Counts (old new : Reader) (answer : Told) : Type 0 where
+pub record Counts (old new : Reader) (answer : RecordTold) : Type 0 where
   pub number : answer.number ≡ answered old + 1
   pub count : answered new ≡ answered old + 1
 
 -- no record was answered: the reader stands for what it stood for
 abbrev pub Stays : View → View → Reader → Reader → Type 0
-Stays old_view new_view old new = (bytes : List ℕ) (records : List capture.Record) → StandsFor old_view old bytes records
-    → StandsFor new_view new bytes records
+Stays old_view new_view old new = (bytes : List ℕ) (records : List capture.Record) → Represents old_view old bytes records
+    → Represents new_view new bytes records
 
 -- the records answered are all of a capture
 abbrev pub IsWhole : View → Reader → Type 0
-IsWhole v r = (bytes : List ℕ) (records : List capture.Record) → StandsFor v r bytes records → IsCapture bytes records
+IsWhole v r = (bytes : List ℕ) (records : List capture.Record) → Represents v r bytes records → IsCapture bytes records
 
 -- of the bytes that were taken from the file, these records are the complete ones
 pub record AreAllTaken (v : View) (file : ℕ) (bytes : List ℕ) (records : List capture.Record) : Type 0 where
@@ -95,7 +95,8 @@ pub record AreAllTaken (v : View) (file : ℕ) (bytes : List ℕ) (records : Lis
 
 -- a read that failed cut the reader off: it has answered all complete records of the bytes that were taken from the file
 abbrev pub IsCutOff : View → View → Reader → Type 0
-IsCutOff old_view new_view r = (bytes : List ℕ) (records : List capture.Record) → StandsFor old_view r bytes records → AreAllTaken new_view r.file bytes records
+IsCutOff old_view new_view r = (bytes : List ℕ) (records : List capture.Record) → Represents old_view r bytes records
+    → AreAllTaken new_view r.file bytes records
 
 -- the header of a record stands in the bytes ahead, and so does all that it announces
 pub record HoldsNext (r : Reader) : Type 0 where
@@ -119,7 +120,7 @@ IsHeadFault fault.NoMemory bytes = Unit {0}
 
 -- the fault is the one that follows the records answered
 abbrev pub IsFault : View → Reader → CaptureFault → Type 0
-IsFault v r f = (bytes : List ℕ) (records : List capture.Record) → StandsFor v r bytes records → ReadsTo f bytes records
+IsFault v r f = (bytes : List ℕ) (records : List capture.Record) → Represents v r bytes records → ReadsTo f bytes records
 
 -- nothing changed but the bytes ahead
 pub record SameBut (old new : Reader) : Type 0 where

@@ -21,9 +21,9 @@ pub struct Ahead {
 
 impl Model for Ahead {
     ghost use Rattle.std.specs.Prelude.{◌≤◌, drop, take, vec_len};
-    ghost use Rattle.pcap_files.specs.Ahead.{Held};
+    ghost use Rattle.pcap_files.specs.Ahead.{HeldBytes};
 
-    ghost Value = { Held };
+    ghost Value = { HeldBytes };
 
     ghost view = { λ a. record { passed = take a.from a.buffer.items; waiting = drop a.from (take a.to a.buffer.items) } };
 

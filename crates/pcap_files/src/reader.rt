@@ -2,7 +2,7 @@
 ghost use Rattle.std.specs.Prelude.{◌≡◌, ◌≤◌, ◌<◌, ◌+◌, ◌++◌, ◌^◌, ◌⊎◌, ℕ, List, [], max, length, None, Some, Err, IsSome, IfOk, IfErr, IfSome, IfNone, OnOk, OnErr, IsErrOf};
 ghost use Rattle.play_base.specs.View.{ReadFault, SameCounts};
 ghost use Rattle.pcap_files.specs.Ahead.{TookSome};
-ghost use Rattle.pcap_files.specs.Reading.{StandsFor, Answers, AreAllTaken, Counts, Holds, HoldsNext, IsCutOff, Stays, IsWhole, IsFault, IsHeadFault, SameBut, IsTaken, IsCut, told_by, told_of};
+ghost use Rattle.pcap_files.specs.Reading.{Represents, Answers, AreAllTaken, Counts, Holds, HoldsNext, IsCutOff, Stays, IsWhole, IsFault, IsHeadFault, SameBut, IsTaken, IsCut, told_by, told_of};
 
 use crate::ahead::Ahead;
 use crate::fault::fault_of;
@@ -43,7 +43,7 @@ impl Reader {
         requires there { IsSome ((F.view files.old).part file) }
         requires few { length first.now ≤ 24 }
         ensures stands { IfOk result (λ reader. (rest : List ℕ) → (F.view files.old).left file ≡ Some rest →
-            StandsFor (F.view files.new) reader (first.now ++ rest) []) }
+            Represents (F.view files.new) reader (first.now ++ rest) []) }
         ensures file { IfOk result (λ reader. reader.file ≡ file) }
         ensures sound { IfOk result (λ reader. reader.fault ≡ None) }
         ensures damaged { IfErr result (λ fault. (rest : List ℕ) → (F.view files.old).left file ≡ Some rest →
@@ -119,7 +119,7 @@ impl Reader {
         }
     }
 
-    /// The record that the last call of `next` found, with its bytes, which stay where they were read to. Takes no memory, in constant
+    /// The record that the last call of `next` found, with its bytes, which stay where they were read to. Does not allocate, in constant
     /// time.
     #[inline(always)]
     pub fn lend(&self, found: Found) -> Record<'_>

@@ -6,9 +6,9 @@ use Rattle.std.proofs.lemmas.List.{map-append}
 use Rattle.std.proofs.lemmas.List.Elements.{All-nil, All-cons, All-append, All-same}
 use Rattle.capture_model.specs.Capture.{Record, IsCapture, most_bytes, most_records}
 use Rattle.capture_model.specs.Header.{capture_header}
-use Rattle.capture_model.specs.Written.{IsWithin, record_text, record_texts, written}
+use Rattle.capture_model.specs.Written.{FitsCapture, record_text, record_texts, written}
 use Rattle.pcap_files.proofs.WritingLemmas.{reads_written}
-use Rattle.pcapng_model.specs.Block.{Broken, Whole, framed, told, Found, NewSection, NewInterface, Packet as PacketFound, Passed, Told, Tells}
+use Rattle.pcapng_model.specs.Block.{Broken, Whole, framed, told, Found, NewSection, NewInterface, Packet as PacketFound, Passed, BlockContent, Tells}
 use Rattle.pcapng_model.specs.Interface as model
 use Rattle.pcapng_model.specs.declared.fault.NgKind.{NgKind}
 use Rattle.pcapng_model.specs.Reading.{Place, Block, Step, End, Fault, step, step_by, step_in, past, past_all, packets, packets_in, start}
@@ -42,33 +42,33 @@ pub record Quiet (old new : Conversion) : Type 0 where
   pub packets : new.packets ≡ old.packets
   pub place : new.place ≡ old.place
 
-took_quiet : (old new : Conversion) (t : Told) (body : List ℕ) (found : Found) → t ≡ Tells found → packets_in found ≡ [] → Quiet old new
+took_quiet : (old new : Conversion) (t : BlockContent) (body : List ℕ) (found : Found) → t ≡ Tells found → packets_in found ≡ [] → Quiet old new
     → place_of new ≡ past (place_of old) (record { found = found; after = old.place }) → Took old new t body None
 took_quiet old new t body found told none q place = record {
   found = found;
   told = told;
   place = place;
   packets = none;
-  within = All-same IsWithin (packets_in found) [] none (All-nil IsWithin);
+  within = All-same FitsCapture (packets_in found) [] none (All-nil FitsCapture);
 }
 
-pub took_section : (old new : Conversion) (t : Told) (body : List ℕ) (big : Bool) → t ≡ Tells (NewSection big) → new.big ≡ big
+pub took_section : (old new : Conversion) (t : BlockContent) (body : List ℕ) (big : Bool) → t ≡ Tells (NewSection big) → new.big ≡ big
     → new.interfaces.items ≡ [] → Quiet old new → Took old new t body None
 took_section old new t body big told is none q =
     took_quiet old new t body (NewSection big) told refl q
     (same_place _ _ is (ap (map interface) none) (q.packets ∙ omega arith) q.place)
 
-pub took_interface : (old new : Conversion) (t : Told) (body : List ℕ) (i : Interface) → t ≡ Tells (NewInterface (interface i)) → new.big ≡ old.big
+pub took_interface : (old new : Conversion) (t : BlockContent) (body : List ℕ) (i : Interface) → t ≡ Tells (NewInterface (interface i)) → new.big ≡ old.big
     → new.interfaces.items ≡ old.interfaces.items ++ i ∷ [] → Quiet old new → Took old new t body None
 took_interface old new t body i told is more q =
     took_quiet old new t body (NewInterface (interface i)) told refl q
     (same_place _ _ is (ap (map interface) more ∙ map-append interface old.interfaces.items (i ∷ [])) (q.packets ∙ omega arith) q.place)
 
-pub took_passed : (c : Conversion) (t : Told) (body : List ℕ) → t ≡ Tells Passed → Took c c t body None
+pub took_passed : (c : Conversion) (t : BlockContent) (body : List ℕ) → t ≡ Tells Passed → Took c c t body None
 took_passed c t body told =
     took_quiet c c t body Passed told refl (record { packets = refl; place = refl }) (same_place _ _ refl refl (omega arith) refl)
 
-pub took_packet : (old new : Conversion) (t : Told) (body : List ℕ) (p : Packet) → t ≡ Tells (PacketFound (packet body p)) → IsWithin (packet body p)
+pub took_packet : (old new : Conversion) (t : BlockContent) (body : List ℕ) (p : Packet) → t ≡ Tells (PacketFound (packet body p)) → FitsCapture (packet body p)
     → new.big ≡ old.big → new.interfaces ≡ old.interfaces → new.packets ≡ old.packets + 1 → new.place ≡ old.place
     → Took old new t body (Some p)
 took_packet old new t body p told within is same more place = record {
@@ -76,7 +76,7 @@ took_packet old new t body p told within is same more place = record {
   told = told;
   place = same_place _ _ is (ap (λ v. map interface v.items) same) (more ∙ omega arith) place;
   packets = refl;
-  within = All-cons IsWithin (packet body p) [] within (All-nil IsWithin);
+  within = All-cons FitsCapture (packet body p) [] within (All-nil FitsCapture);
 }
 
 texts-append : (xs ys : List Record) → record_texts (xs ++ ys) ≡ record_texts xs ++ record_texts ys
@@ -92,7 +92,7 @@ pub record IsConverting (file bytes : List ℕ) (c : Conversion) : Type 0 where
   pub written_is : take c.written bytes ≡ take 24 file ++ record_texts (packets blocks)
   pub unread : drop c.place bytes ≡ drop c.place file
   pub size : length bytes ≡ length file
-  pub within : All IsWithin (packets blocks)
+  pub within : All FitsCapture (packets blocks)
   pub count : c.packets ≡ length (packets blocks)
 
 pub converting_none : (file : List ℕ) (c : Conversion) → place_of c ≡ start → c.written ≡ 24 → IsConverting file file c
@@ -103,7 +103,7 @@ converting_none file c place head = record {
   written_is = ap (λ (n : ℕ). take n file) head ∙ sym (append-nil (take 24 file));
   unread = refl;
   size = refl;
-  within = All-nil IsWithin;
+  within = All-nil FitsCapture;
   count = ap (λ (p : Place). p.count) place;
 }
 
@@ -123,8 +123,8 @@ converting_more file xs ys a b x y same further =
           ∙ ap (λ (rs : List Record). take 24 file ++ record_texts rs) (sym all);
       unread = y.unread ∙ drop_further xs file a.place b.place further x.unread;
       size = same ∙ x.size;
-      within = All-same IsWithin (packets (x.blocks ++ block ∷ [])) (packets x.blocks ++ packets_in block.found) all
-          (All-append IsWithin (packets x.blocks) (packets_in block.found) x.within y.within);
+      within = All-same FitsCapture (packets (x.blocks ++ block ∷ [])) (packets x.blocks ++ packets_in block.found) all
+          (All-append FitsCapture (packets x.blocks) (packets_in block.found) x.within y.within);
       count = ap (λ (p : Place). p.count) y.place ∙ ap (λ (n : ℕ). n + length (packets_in block.found)) x.count
           ∙ sym (length-append (packets x.blocks) (packets_in block.found)) ∙ ap (length {A = Record}) (sym all);
     }

@@ -12,7 +12,7 @@ use Rattle.std.proofs.lemmas.List.{drop-take, take-append-le}
 use Rattle.std.proofs.lemmas.List.Edits.{take-paste, drop-paste, length-paste}
 use Rattle.capture_model.specs.Capture.{Record}
 use Rattle.capture_model.specs.Header.{capture_header, record_header}
-use Rattle.capture_model.specs.Written.{IsWithin, record_text}
+use Rattle.capture_model.specs.Written.{FitsCapture, record_text}
 use Rattle.pcapng_files.proofs.UnreadLemmas.{drop_further, drop_more}
 use Rattle.pcapng_files.specs.Views.{packet, records_of}
 use Rattle.pcapng_files.specs.declared.packet.Packet.{Packet}
@@ -126,10 +126,10 @@ same_records xs body at None is short = refl
 same_records xs body at (Some p) is short = ap (λ (r : Record). r ∷ []) (same_packet xs body at p is short)
 
 pub within_there : (xs body : List ℕ) (at : ℕ) (found : Option Packet) → body ≡ take (length body) (drop at xs)
-    → IfSome found (λ p. 20 + p.captured ≤ length body) → IfSome found (λ p. IsWithin (packet body p))
-    → IfSome found (λ p. IsWithin (packet (drop at xs) p))
+    → IfSome found (λ p. 20 + p.captured ≤ length body) → IfSome found (λ p. FitsCapture (packet body p))
+    → IfSome found (λ p. FitsCapture (packet (drop at xs) p))
 within_there xs body at None is short within = tt
-within_there xs body at (Some p) is short within = subst IsWithin (same_packet xs body at p is short) within
+within_there xs body at (Some p) is short within = subst FitsCapture (same_packet xs body at p is short) within
 
 -- a record ends before the next block
 pub ends_before : (found : Option Packet) (written place interfaces body after : ℕ) → written ≤ max 24 place → 12 * interfaces ≤ place

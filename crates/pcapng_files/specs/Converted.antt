@@ -2,7 +2,7 @@
 use Rattle.std.specs.Prelude.{◌≡◌, ℕ, List}
 use Rattle.capture_model.specs.Capture.{Record, IsCapture}
 use Rattle.capture_model.specs.Written.{written}
-use Rattle.pcapng_model.specs.Block.{Told, Refuses, TooMany}
+use Rattle.pcapng_model.specs.Block.{BlockContent, Refuses, TooMany}
 use Rattle.pcapng_model.specs.Reading.{Step, Fault, IsPcapng, Reads}
 use Rattle.pcapng_model.specs.Reading as reading
 use Rattle.pcapng_files.specs.declared.fault.NgFault.{NgFault}
@@ -17,7 +17,7 @@ fault_of Limit place = ng.Limit
 fault_of NoMemory place = ng.NoMemory
 
 -- why a block that tells this is not taken
-abbrev pub IsRefusal : Refusal → Told → Type 0
+abbrev pub IsRefusal : Refusal → BlockContent → Type 0
 IsRefusal (Broken kind) t = t ≡ Refuses kind
 IsRefusal Limit t = t ≡ TooMany
 IsRefusal NoMemory t = Unit {0}

@@ -1,8 +1,8 @@
 -- A file that is being converted in its own place.
 use Rattle.std.specs.Prelude.{◌≡◌, ◌≤◌, ◌*◌, ℕ, max, List, ◌++◌, map, take, drop, vec_len, All}
 use Rattle.std.specs.declared.option.Option.{Option}
-use Rattle.capture_model.specs.Written.{IsWithin, record_texts}
-use Rattle.pcapng_model.specs.Block.{Found, Told, Tells}
+use Rattle.capture_model.specs.Written.{FitsCapture, record_texts}
+use Rattle.pcapng_model.specs.Block.{Found, BlockContent, Tells}
 use Rattle.pcapng_model.specs.Reading.{Place, Block, Next, step, past, packets_in}
 use Rattle.pcapng_files.specs.Views.{interface, records_of}
 use Rattle.pcapng_files.specs.declared.conversion.Conversion.{Conversion}
@@ -20,12 +20,12 @@ pub record IsBehind (c : Conversion) : Type 0 where
   pub interfaces : 12 * vec_len c.interfaces ≤ c.place
 
 -- the block with this body was taken, which tells this, and holds this packet
-pub record Took (old new : Conversion) (t : Told) (body : List ℕ) (p : Option Packet) : Type 0 where
+pub record Took (old new : Conversion) (t : BlockContent) (body : List ℕ) (p : Option Packet) : Type 0 where
   pub found : Found
   pub told : t ≡ Tells found
   pub place : place_of new ≡ past (place_of old) (record { found = found; after = old.place })
   pub packets : packets_in found ≡ records_of body p
-  pub within : All IsWithin (packets_in found)
+  pub within : All FitsCapture (packets_in found)
 
 -- the next block of the file was taken, and the record of its packet was written
 pub record Advanced (old_bytes new_bytes : List ℕ) (old new : Conversion) : Type 0 where
@@ -34,4 +34,4 @@ pub record Advanced (old_bytes new_bytes : List ℕ) (old new : Conversion) : Ty
   pub place : place_of new ≡ past (place_of old) block
   pub written : take new.written new_bytes ≡ take old.written old_bytes ++ record_texts (packets_in block.found)
   pub unread : drop new.place new_bytes ≡ drop new.place old_bytes
-  pub within : All IsWithin (packets_in block.found)
+  pub within : All FitsCapture (packets_in block.found)

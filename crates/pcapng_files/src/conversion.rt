@@ -1,6 +1,6 @@
 // A file that is being converted, block by block, in its own place.
 ghost use Rattle.std.specs.Prelude.{◌≡◌, ◌≤◌, ◌<◌, ◌+◌, ◌*◌, ◌^◌, None, Some, map, vec_len, length, IfOk, IfErr, IfSome, OnOk};
-ghost use Rattle.capture_model.specs.Written.{IsWithin};
+ghost use Rattle.capture_model.specs.Written.{FitsCapture};
 ghost use Rattle.pcapng_model.specs.Block.{Refuses, told, told_interface, told_packet, told_section};
 ghost use Rattle.pcapng_model.specs.Reading.{start, step};
 ghost use Rattle.pcapng_files.specs.Converted.{IsFault, IsRefusal};
@@ -106,7 +106,7 @@ impl Conversion {
         ensures took { IfOk result (λ p. Took self.old self.new
             (told_packet big body.now (map interface self.old.interfaces.items) self.old.packets) body.now (Some p)) }
         ensures few { OnOk result (self.new.packets ≤ 4000000) }
-        ensures within { IfOk result (λ p. IsWithin (packet body.now p)) }
+        ensures within { IfOk result (λ p. FitsCapture (packet body.now p)) }
         ensures short { IfOk result (λ p. 20 + p.captured ≤ length body.now) }
         ensures some { OnOk result (1 ≤ vec_len self.old.interfaces) }
         ensures interfaces { self.new.interfaces ≡ self.old.interfaces }
@@ -130,7 +130,7 @@ impl Conversion {
             (told block.now.big block.now.kind block.now.body.now (map interface self.old.interfaces.items) self.old.packets)
             block.now.body.now p) }
         ensures few { OnOk result (self.new.packets ≤ 4000000) }
-        ensures within { IfOk result (λ found. IfSome found (λ p. IsWithin (packet block.now.body.now p))) }
+        ensures within { IfOk result (λ found. IfSome found (λ p. FitsCapture (packet block.now.body.now p))) }
         ensures short { IfOk result (λ found. IfSome found (λ p. 20 + p.captured ≤ length block.now.body.now)) }
         ensures some { IfOk result (λ found. IfSome found (λ p. 1 ≤ vec_len self.old.interfaces)) }
         ensures interfaces { OnOk result (vec_len self.new.interfaces ≤ vec_len self.old.interfaces + 1) }

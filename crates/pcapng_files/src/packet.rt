@@ -1,6 +1,6 @@
 // The packet of an enhanced packet block.
 ghost use Rattle.std.specs.Prelude.{◌≡◌, ◌≤◌, ◌+◌, map, slice_get, Some, IfOk, IfErr, OnOk, length};
-ghost use Rattle.capture_model.specs.Written.{IsWithin};
+ghost use Rattle.capture_model.specs.Written.{FitsCapture};
 ghost use Rattle.pcapng_model.specs.Block.{Packet as PacketFound, Refuses, Tells, count_in, packet_on, told_packet};
 ghost use Rattle.pcapng_model.specs.Number.{number, padded};
 ghost use Rattle.pcapng_files.specs.Converted.{IsRefusal};
@@ -42,7 +42,7 @@ fn count_in(big: bool, body: &[u8]) -> u64
 fn packet_on(from: &Interface, big: bool, body: &[u8]) -> Result<Packet, NgKind>
     requires { 20 + padded (number big 4 body.now 12) ≤ length body.now }
     ensures ok { IfOk result (λ p. packet_on (Some (interface from.now)) big body.now ≡ Tells (PacketFound (packet body.now p))) }
-    ensures within { IfOk result (λ p. IsWithin (packet body.now p)) }
+    ensures within { IfOk result (λ p. FitsCapture (packet body.now p)) }
     ensures short { IfOk result (λ p. 20 + p.captured ≤ length body.now) }
     ensures err { IfErr result (λ kind. packet_on (Some (interface from.now)) big body.now ≡ Refuses kind) }
 {
@@ -75,7 +75,7 @@ pub fn packet_in(
     count: u32,
 ) -> Result<Packet, Refusal>
     ensures ok { IfOk result (λ p. told_packet big body.now (map interface interfaces.now) count ≡ Tells (PacketFound (packet body.now p))) }
-    ensures within { IfOk result (λ p. IsWithin (packet body.now p)) }
+    ensures within { IfOk result (λ p. FitsCapture (packet body.now p)) }
     ensures short { IfOk result (λ p. 20 + p.captured ≤ length body.now) }
     ensures few { OnOk result (count ≡ 4000000 → ⊥) }
     ensures some { OnOk result (1 ≤ length interfaces.now) }

@@ -1,7 +1,7 @@
 // The record of a packet, put into the bytes of the file that holds the packet.
 ghost use Rattle.std.specs.Prelude.{◌≡◌, ◌≤◌, ◌+◌, ◌++◌, ℕ, IfSome, drop, length, take};
 ghost use Rattle.std.specs.List.{copy_within};
-ghost use Rattle.capture_model.specs.Written.{IsWithin, record_text, record_texts};
+ghost use Rattle.capture_model.specs.Written.{FitsCapture, record_text, record_texts};
 ghost use Rattle.pcapng_files.specs.Views.{packet, records_of, size_of};
 
 use crate::packet::{HEAD, Packet};
@@ -33,7 +33,7 @@ fn move_bytes(bytes: &mut [u8], from: usize, count: usize, to: usize)
 // Puts the record of a packet at `at`; the packet's body stands at `body`. The captured bytes are moved first, because the record's
 // head may overwrite some of them.
 fn put_record(bytes: &mut [u8], at: usize, body: usize, found: &Packet)
-    requires within { IsWithin (packet (drop body bytes.old) found.now) }
+    requires within { FitsCapture (packet (drop body bytes.old) found.now) }
     requires here { body + 20 + found.now.captured ≤ length bytes.old }
     requires room { at + 16 + found.now.captured ≤ length bytes.old }
     ensures put { take (at + 16 + found.now.captured) bytes.new ≡ take at bytes.old ++ record_text (packet (drop body bytes.old) found.now) }
@@ -47,7 +47,7 @@ fn put_record(bytes: &mut [u8], at: usize, body: usize, found: &Packet)
 
 // Puts the record of a packet at `at`, if there is a packet, and gives the end of what is written then.
 pub fn put_found(bytes: &mut [u8], at: usize, body: usize, found: &Option<Packet>) -> usize
-    requires within { IfSome found.now (λ p. IsWithin (packet (drop body bytes.old) p)) }
+    requires within { IfSome found.now (λ p. FitsCapture (packet (drop body bytes.old) p)) }
     requires here { IfSome found.now (λ p. body + 20 + p.captured ≤ length bytes.old) }
     requires room { IfSome found.now (λ p. at + 16 + p.captured ≤ length bytes.old) }
     ensures end { result ≡ at + size_of found.now }

@@ -4,7 +4,7 @@ use Rattle.std.specs.declared.option.Option.{Option}
 use Rattle.std.proofs.Common.{◌∙◌, refl, ap, sym, subst, arith, append_assoc, append-nil, length-append}
 use Rattle.std.proofs.lemmas.Bool.{ltb-false}
 use Rattle.capture_model.specs.Capture.{Record}
-use Rattle.pcapng_model.specs.Block.{Framed, Whole, Broken, Told, Tells, Refuses, TooMany, framed, framed_by, order_at, told}
+use Rattle.pcapng_model.specs.Block.{Framed, Whole, Broken, BlockContent, Tells, Refuses, TooMany, framed, framed_by, order_at, told}
 use Rattle.pcapng_model.specs.Number.{number}
 use Rattle.pcapng_model.specs.Reading.{Place, Block, Step, End, Next, Fault, Limit, step, step_by, step_in, past, past_all, packets, packets_in, Stand, IsLast, Reads}
 use Rattle.pcapng_model.specs.declared.fault.NgKind.TheVariants.{ShortBlock, BadBlock}
@@ -41,7 +41,7 @@ after_of other (Next b) = b.after
 after_of other (Fault f) = other
 after_of other Limit = other
 
-told_next : (at after : ℕ) (t : Told) (b : Block) → step_by at after t ≡ Next b → after ≡ b.after
+told_next : (at after : ℕ) (t : BlockContent) (b : Block) → step_by at after t ≡ Next b → after ≡ b.after
 told_next at after (Tells found) b h = ap (after_of at) h
 told_next at after (Refuses kind) b h = absurd (cc)
 told_next at after TooMany b h = absurd (cc)

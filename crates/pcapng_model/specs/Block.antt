@@ -43,26 +43,26 @@ pub data Found : Type 0 where
   Passed : Found
 
 -- a block tells what it holds, or fails a test, or is one packet too many
-pub data Told : Type 0 where
-  Tells : Found → Told
-  Refuses : NgKind → Told
-  TooMany : Told
+pub data BlockContent : Type 0 where
+  Tells : Found → BlockContent
+  Refuses : NgKind → BlockContent
+  TooMany : BlockContent
 
-abbrev pub told_section : (big : Bool) → (body : List ℕ) → Told
+abbrev pub told_section : (big : Bool) → (body : List ℕ) → BlockContent
 told_section big body =
     if nat_lt (length body) 16 then Refuses BadBlock
     else if not (number big 2 body 4 == 1) then Refuses BadVersion
     else Tells (NewSection big)
 
-abbrev pub described : (link offset : ℕ) → (units : Option ℕ) → Told
+abbrev pub described : (link offset : ℕ) → (units : Option ℕ) → BlockContent
 described link offset None = Refuses BadResolution
 described link offset (Some units) = Tells (NewInterface (record { link = link; units = units; offset = offset_of offset }))
 
-abbrev pub described_by : (link : ℕ) → Option Settings → Told
+abbrev pub described_by : (link : ℕ) → Option Settings → BlockContent
 described_by link None = Refuses BadBlock
 described_by link (Some s) = described link s.offset (units_of s.resolution)
 
-abbrev pub told_interface : (big : Bool) → (body : List ℕ) → Told
+abbrev pub told_interface : (big : Bool) → (body : List ℕ) → BlockContent
 told_interface big body =
     if nat_lt (length body) 8 then Refuses BadBlock
     else described_by (number big 2 body 0) (options big (drop 8 body))
@@ -71,11 +71,11 @@ told_interface big body =
 abbrev pub count_in : (big : Bool) → (body : List ℕ) → ℕ
 count_in big body = number big 4 body 4 * 2 ^ 32 + number big 4 body 8
 
-abbrev pub stamped : Option ℕ → (captured : List ℕ) → (original : ℕ) → Told
+abbrev pub stamped : Option ℕ → (captured : List ℕ) → (original : ℕ) → BlockContent
 stamped None captured original = Refuses BadStamp
 stamped (Some stamp) captured original = Tells (Packet (record { stamp = stamp; captured = captured; original = original }))
 
-abbrev pub packet_on : Option Interface → (big : Bool) → (body : List ℕ) → Told
+abbrev pub packet_on : Option Interface → (big : Bool) → (body : List ℕ) → BlockContent
 packet_on None big body = Refuses UnknownInterface
 packet_on (Some i) big body =
     let captured = number big 4 body 12 in
@@ -86,14 +86,14 @@ packet_on (Some i) big body =
     else stamped (stamp i (count_in big body)) (take captured (drop 20 body)) original
 
 -- behind `count` packets; the options of a packet are not looked at
-abbrev pub told_packet : (big : Bool) → (body : List ℕ) → List Interface → (count : ℕ) → Told
+abbrev pub told_packet : (big : Bool) → (body : List ℕ) → List Interface → (count : ℕ) → BlockContent
 told_packet big body interfaces count =
     if nat_lt (length body) 20 || nat_lt (length body) (20 + padded (number big 4 body 12)) then Refuses BadBlock
     else if count == most_records then TooMany
     else packet_on (slice_get interfaces (number big 4 body 0)) big body
 
 -- types 2 and 3, the obsolete and the simple packet block, would lose packets or their moments; other types are passed over
-abbrev pub told : (big : Bool) → (kind : ℕ) → (body : List ℕ) → List Interface → (count : ℕ) → Told
+abbrev pub told : (big : Bool) → (kind : ℕ) → (body : List ℕ) → List Interface → (count : ℕ) → BlockContent
 told big kind body interfaces count =
     if kind == section_type then told_section big body
     else if kind == 1 then told_interface big body

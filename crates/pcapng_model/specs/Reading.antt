@@ -2,7 +2,7 @@
 -- section header. Interfaces are counted from 0 in each section.
 use Rattle.std.specs.Prelude.{◌≡◌, ◌+◌, ◌++◌, ℕ, zero, suc, Bool, false, nat_lt, nat_le, List, [], ◌∷◌, length, if◌then◌else◌}
 use Rattle.capture_model.specs.Capture.{Record, most_bytes}
-use Rattle.pcapng_model.specs.Block.{Framed, Whole, Broken, Found, NewSection, NewInterface, Packet, Passed, Told, Tells, Refuses, TooMany, framed, told}
+use Rattle.pcapng_model.specs.Block.{Framed, Whole, Broken, Found, NewSection, NewInterface, Packet, Passed, BlockContent, Tells, Refuses, TooMany, framed, told}
 use Rattle.pcapng_model.specs.Interface.{Interface}
 use Rattle.pcapng_model.specs.declared.fault.NgKind.{NgKind}
 use Rattle.pcapng_model.specs.declared.fault.NgPlace.{NgPlace}
@@ -33,7 +33,7 @@ pub data Step : Type 0 where
 abbrev pub fault : ℕ → NgKind → Step
 fault place kind = Fault (record { place = place; kind = kind })
 
-abbrev pub step_by : (at after : ℕ) → Told → Step
+abbrev pub step_by : (at after : ℕ) → BlockContent → Step
 step_by at after (Tells found) = Next (record { found = found; after = after })
 step_by at after (Refuses kind) = fault at kind
 step_by at after TooMany = Limit

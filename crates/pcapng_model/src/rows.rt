@@ -120,7 +120,8 @@ pub fn worked_packet_faults()
     ensures too_long { outcome (put 72 (words (0x01000400 ∷ [])) one_packet) ≡ breaks_at 48 NgKind.LongRecord }
     ensures empty { outcome (section ++ interface 0x14000000 [] ++ put 24 (words (0x00000000 ∷ [])) (short_packet 0x24000000 0x00000000 0x00000000))
         ≡ breaks_at 48 NgKind.EmptyRecord }
-    ensures length_before_stamp { outcome (put 84 (words (0x01000400 ∷ [])) (counted 0x20000000 (0x0e000800 ∷ 0xffffffff ∷ 0xffffffff ∷ []) 0x00000000 0x3f420f00))
+    ensures length_before_stamp { outcome (put 84 (words (0x01000400 ∷ [])) (counted 0x20000000
+        (0x0e000800 ∷ 0xffffffff ∷ 0xffffffff ∷ []) 0x00000000 0x3f420f00))
         ≡ breaks_at 60 NgKind.LongRecord }
     ensures empty_before_stamp { outcome (section ++ interface 0x20000000 (words (0x0e000800 ∷ 0xffffffff ∷ 0xffffffff ∷ []))
         ++ put 24 (words (0x00000000 ∷ [])) (short_packet 0x24000000 0x00000000 0x00000000)) ≡ breaks_at 60 NgKind.EmptyRecord }

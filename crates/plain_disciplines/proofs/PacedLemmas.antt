@@ -7,7 +7,7 @@ use Rattle.std.proofs.Math.Nat.{mul-le-mul_left}
 use Rattle.std.proofs.lemmas.Bool.{cases_eq, eq-eqb, ne_eqb, eqb-true, le-leb, leb-true, lt-ltb, ltb-true}
 use Rattle.altq_model.specs.declared.Rule.{Rule}
 use Rattle.altq_model.specs.declared.Rule.TheVariants.{Own}
-use Rattle.altq_model.specs.History.{Arrival, Event, Happened, bare, waiting}
+use Rattle.altq_model.specs.History.{Arrival, Event, LabelledEvent, unlabelled, waiting}
 use Rattle.altq_model.specs.Play.{Policy, Choice, class_start, lesser}
 use Rattle.altq_model.specs.Policies.{Answering}
 use Rattle.altq_model.specs.Lawful.{IsLawful, IsSteady, first_at}
@@ -23,11 +23,11 @@ use Rattle.discipline.specs.declared.pick.Pick.TheVariants.{Send, Wait}
 use Rattle.discipline.specs.declared.pick.Sending.{Sending}
 use Rattle.discipline.specs.Laws.{AreDistinct, IsAnswer, IsLeast, Sends, offer_of, seen, seen_of, sent_of}
 use Rattle.discipline.specs.Moments.{IsChoice, IsOffer, IsOrderly, WasDue}
-use Rattle.class_rows.specs.Rows.{Answers, IsOther, Rowed, SameRow, Told, answering, list_in}
+use Rattle.class_rows.specs.Rows.{Answers, IsOther, ClassQueuesView, SameRow, RowRepresents, answering, list_in}
 use Rattle.class_rows.proofs.FrontLemmas.{front_shown}
 use Rattle.class_rows.proofs.RowHistory.{Offering, bare_arrival}
 use Rattle.plain_disciplines.specs.Plain.{IsPlain}
-use Rattle.plain_disciplines.specs.Paced.{Pacing, Stands, due_at, due_of, multiple_from, paced, paced_due, paced_of}
+use Rattle.plain_disciplines.specs.Paced.{Pacing, Represents, due_at, due_of, multiple_from, paced, paced_due, paced_of}
 
 pub multiple_later : (gap t : ℕ) → 1 ≤ gap → t ≤ multiple_from gap t
 multiple_later gap t g = omega (arith, le_ceil t gap g)
@@ -181,17 +181,17 @@ pub due_sent : (class c gap : ℕ) (xs : List Entry) (x : Entry) (now : ℕ) →
 due_sent class c gap xs x now e m s = ap (λ (n : ℕ). Send x.ticket n x.len Own) s ∙ sym (due_now class gap xs x now e m)
 
 -- a class of one is the first, and every other list is empty
-only_one : {Q : Type 0} (d : Rowed Q) (c : ℕ) (b e : Bool) → nat_le d.first c ≡ b → nat_lt c (d.first + 1) ≡ e → length d.queues ≡ 1
+only_one : {Q : Type 0} (d : ClassQueuesView Q) (c : ℕ) (b e : Bool) → nat_le d.first c ≡ b → nat_lt c (d.first + 1) ≡ e → length d.queues ≡ 1
     → ((k : ℕ) → IsOther d k → list_in d k ≡ []) → list_in d d.first ≡ [] → list_in d c ≡ []
 only_one d c true true l m one others none =
     let same : d.first ≡ c = omega (arith, leb-true d.first c l, ltb-true c (d.first + 1) m) in ap (list_in d) (sym same) ∙ none
 only_one d c false e l m one others none = others c (λ a b. let k = le-leb d.first c a in (cc))
 only_one d c true false l m one others none = others c (λ a b. let k = lt-ltb c (d.first + 1) (omega (arith, b, one)) in (cc))
 
-pub empty_all : {Q : Type 0} (d : Rowed Q) → length d.queues ≡ 1 → ((k : ℕ) → IsOther d k → list_in d k ≡ []) → list_in d d.first ≡ [] → (c : ℕ) → list_in d c ≡ []
+pub empty_all : {Q : Type 0} (d : ClassQueuesView Q) → length d.queues ≡ 1 → ((k : ℕ) → IsOther d k → list_in d k ≡ []) → list_in d d.first ≡ [] → (c : ℕ) → list_in d c ≡ []
 empty_all d one others none c = only_one d c (nat_le d.first c) (nat_lt c (d.first + 1)) refl refl one others none
 
-pub not_all_empty : {Q : Type 0} (d : Rowed Q) (x : Entry) → slice_get (list_in d d.first) 0 ≡ Some x → ((c : ℕ) → list_in d c ≡ []) → ⊥
+pub not_all_empty : {Q : Type 0} (d : ClassQueuesView Q) (x : Entry) → slice_get (list_in d d.first) 0 ≡ Some x → ((c : ℕ) → list_in d c ≡ []) → ⊥
 not_all_empty d x e f =
     let none : slice_get (list_in d d.first) 0 ≡ None = ap (λ (ys : List Entry). slice_get ys 0) (f d.first) in
     (cc (e, none))
@@ -226,8 +226,8 @@ sends_head class gap (x ∷ xs) now c l t r e = sends_head_at class gap x xs now
 
 module _ {Q : Type 0} (stands : Q → List QueueEvent → Type 0) (says : Q → Saying) where
   -- what shows in the one list
-  pub packets_here : (d : Pacing Q) (h : List Happened) → Stands stands says d h → seen (list_in d.rows d.rows.first) ≡ seen_of (waiting d.rows.first (bare h))
-  packets_here d h s = (s.told.shown d.rows.first).packets
+  pub packets_here : (d : Pacing Q) (h : List LabelledEvent) → Represents stands says d h → seen (list_in d.rows d.rows.first) ≡ seen_of (waiting d.rows.first (unlabelled h))
+  packets_here d h s = (s.recorded.shown d.rows.first).packets
 
   pub plain : (d : Pacing Q) → 1 ≤ d.gap → IsPlain (paced_of says d)
   plain d g = record {
@@ -236,42 +236,42 @@ module _ {Q : Type 0} (stands : Q → List QueueEvent → Type 0) (says : Q → 
     distinct = one_distinct d.rows.first;
   }
 
-  pub same_policy : (most : Q → ℕ) (d : Pacing Q) (rows : Rowed Q) → SameRow most says d.rows rows → paced_of says (record { gap = d.gap; rows = rows }) ≡ paced_of says d
+  pub same_policy : (most : Q → ℕ) (d : Pacing Q) (rows : ClassQueuesView Q) → SameRow most says d.rows rows → paced_of says (record { gap = d.gap; rows = rows }) ≡ paced_of says d
   same_policy most d rows s =
       ap (λ (n : ℕ). paced n d.gap (answering says rows)) s.first ∙ ap (λ (a : Answering). paced d.rows.first d.gap a) s.answers
 
   -- a sending of what is due
-  pub sent_stands : (most : Q → ℕ) (d : Pacing Q) (rows : Rowed Q) (h : List Happened) (clock : Clock) (s : Sending) → SameRow most says d.rows rows → Stands stands says d h
-      → Told stands rows (sent_of s ∷ h) → due_of d s.start ≡ Send s.ticket s.class s.len s.rule → IsChoice s.start clock (bare h)
-      → Stands stands says (record { gap = d.gap; rows = rows }) (sent_of s ∷ h)
-  sent_stands most d rows h clock s same k told due o =
+  pub sent_stands : (most : Q → ℕ) (d : Pacing Q) (rows : ClassQueuesView Q) (h : List LabelledEvent) (clock : Clock) (s : Sending) → SameRow most says d.rows rows → Represents stands says d h
+      → RowRepresents stands rows (sent_of s ∷ h) → due_of d s.start ≡ Send s.ticket s.class s.len s.rule → IsChoice s.start clock (unlabelled h)
+      → Represents stands says (record { gap = d.gap; rows = rows }) (sent_of s ∷ h)
+  sent_stands most d rows h clock s same k recorded due o =
       let class : ℕ = d.rows.first in
       let xs : List Entry = list_in d.rows class in
       let x = sends_head class d.gap xs s.start s.class s.len s.ticket s.rule due in
       let e : Pacing Q = record { gap = d.gap; rows = rows } in
-      let f = front_shown class xs h x.head_entry (k.told.shown class) x.front in
-      let was : WasDue (paced_of says d) (bare h) (record { class = s.class; len = s.len; rule = s.rule; start = s.start; end = s.end }) = record {
+      let f = front_shown class xs h x.head_entry (k.recorded.shown class) x.front in
+      let was : WasDue (paced_of says d) (unlabelled h) (record { class = s.class; len = s.len; rule = s.rule; start = s.start; end = s.end }) = record {
         packet = f.packet;
-        front = ap (λ (n : ℕ). slice_get (waiting n (bare h)) 0) x.same_class ∙ f.front;
+        front = ap (λ (n : ℕ). slice_get (waiting n (unlabelled h)) 0) x.same_class ∙ f.front;
         len = sym x.same_len ∙ f.len;
         arrived = o.arrived;
         started = o.started;
-        first = first_some class d.gap (answering says d.rows) xs x.head_entry (bare h) s.start (packets_here d h k) x.front ∙ ap Some x.multiple;
+        first = first_some class d.gap (answering says d.rows) xs x.head_entry (unlabelled h) s.start (packets_here d h k) x.front ∙ ap Some x.multiple;
         pick = ap (λ (r : Rule). choice class r) (sym x.same_rule) ∙ ap (λ (n : ℕ). choice n s.rule) (sym x.same_class);
       } in
-      let O : Policy → Type 0 = λ y. IsOrderly y (bare (sent_of s ∷ h)) in
-      record { gap = k.gap; told = told; orderly = subst O (sym (same_policy most d rows same)) (was, k.orderly); plain = plain e k.gap }
+      let O : Policy → Type 0 = λ y. IsOrderly y (unlabelled (sent_of s ∷ h)) in
+      record { gap = k.gap; recorded = recorded; orderly = subst O (sym (same_policy most d rows same)) (was, k.orderly); plain = plain e k.gap }
 
   -- an offer
-  pub offer_stands : (most : Q → ℕ) (d : Pacing Q) (rows : Rowed Q) (h : List Happened) (x : Offering)
-      → SameRow most says d.rows rows → Stands stands says d h → IsOffer (bare_arrival x) (bare h) → Answers stands says d.rows rows h x.class x.entry x.now x.words x.verdict x.after
-      → IsAnswer (paced_of says d) (bare h) x.words (bare_arrival x) x.verdict x.after
-      × Stands stands says (record { gap = d.gap; rows = rows }) (offer_of (paced_of says d) h x.entry.ticket x.words (bare_arrival x) ∷ h)
+  pub offer_stands : (most : Q → ℕ) (d : Pacing Q) (rows : ClassQueuesView Q) (h : List LabelledEvent) (x : Offering)
+      → SameRow most says d.rows rows → Represents stands says d h → IsOffer (bare_arrival x) (unlabelled h) → Answers stands says d.rows rows h x.class x.entry x.now x.words x.verdict x.after
+      → IsAnswer (paced_of says d) (unlabelled h) x.words (bare_arrival x) x.verdict x.after
+      × Represents stands says (record { gap = d.gap; rows = rows }) (offer_of (paced_of says d) h x.entry.ticket x.words (bare_arrival x) ∷ h)
   offer_stands most d rows h x same k o a =
       let e : Pacing Q = record { gap = d.gap; rows = rows } in
-      let O : Policy → Type 0 = λ y. IsOrderly y (bare (offer_of (paced_of says d) h x.entry.ticket x.words (bare_arrival x) ∷ h)) in (
+      let O : Policy → Type 0 = λ y. IsOrderly y (unlabelled (offer_of (paced_of says d) h x.entry.ticket x.words (bare_arrival x) ∷ h)) in (
         record { verdict = a.verdict; words = a.words },
-        record { gap = k.gap; told = a.told; orderly = subst O (sym (same_policy most d rows same)) (o, refl, k.orderly); plain = plain e k.gap },
+        record { gap = k.gap; recorded = a.recorded; orderly = subst O (sym (same_policy most d rows same)) (o, refl, k.orderly); plain = plain e k.gap },
       )
 
 -- the head that was asked for

@@ -4,7 +4,7 @@ use Rattle.std.specs.declared.option.Option.{Option}
 use Rattle.std.specs.Prelude.{slice_get, option_map, nat_le, nat_lt}
 use Rattle.std.proofs.lemmas.Bool.{le-leb, leb-true, lt-ltb, ltb-true}
 use Rattle.altq_model.specs.declared.Rule.{Rule}
-use Rattle.altq_model.specs.History.{Arrival, Event, Happened, bare, waiting}
+use Rattle.altq_model.specs.History.{Arrival, Event, LabelledEvent, unlabelled, waiting}
 use Rattle.altq_model.specs.Play.{Choice, Policy, lesser}
 use Rattle.altq_model.specs.Policies.{Answering, strict, first_waiting}
 use Rattle.altq_model.specs.Lawful.{first_at}
@@ -18,19 +18,19 @@ use Rattle.discipline.specs.declared.pick.Pick.TheVariants.{Send, Wait, Empty}
 use Rattle.discipline.specs.declared.pick.Sending.{Sending}
 use Rattle.discipline.specs.Laws.{IsAnswer, IsDue, NamesHead, Waits, entry, offer_of, seen, seen_of, sent_of}
 use Rattle.discipline.specs.Moments.{IsChoice, IsOffer, IsOrderly, WasDue}
-use Rattle.class_rows.specs.Rows.{Answers, Rowed, SameRow, Told, answering, classes_in, holding, list_in}
+use Rattle.class_rows.specs.Rows.{Answers, ClassQueuesView, SameRow, RowRepresents, answering, classes_in, holding, list_in}
 use Rattle.class_rows.proofs.RowLemmas.{holding_distinct}
 use Rattle.class_rows.proofs.FrontLemmas.{front_shown}
 use Rattle.class_rows.proofs.RowHistory.{Offering, bare_arrival}
 use Rattle.plain_disciplines.specs.Plain.{IsPlain}
-use Rattle.plain_disciplines.specs.Strict.{IsStrict, Ordered, Stands, classes_from, first_pick, pick_head, strict_due, strict_of}
+use Rattle.plain_disciplines.specs.Strict.{IsStrict, Ordered, Represents, classes_from, first_pick, pick_head, strict_due, strict_of}
 
 -- the queue classes, where every class is one
 pub all_hold : (c n : ℕ) → holding c (replicate n true) ≡ classes_from c n
 all_hold c zero = refl
 all_hold c (suc n) = ap (λ (cs : List ℕ). c ∷ cs) (all_hold (c + 1) n)
 
-pub classes_are : {Q : Type 0} (d : Rowed Q) → IsStrict d → classes_in d ≡ classes_from d.first (length d.queues)
+pub classes_are : {Q : Type 0} (d : ClassQueuesView Q) → IsStrict d → classes_in d ≡ classes_from d.first (length d.queues)
 classes_are d i = ap (holding d.first) i.holds ∙ all_hold d.first (length d.queues)
 
 -- the pick is the head of the first list that is not empty
@@ -164,16 +164,16 @@ sends_front rule lists (c ∷ cs) t class len r p =
     front_case_of rule lists c (lists c) (first_pick rule lists cs) t class len r refl (sends_front rule lists cs t class len r) p
 
 module _ {Q : Type 0} (stands : Q → List QueueEvent → Type 0) (says : Q → Saying) where
-  what_is : (d : Ordered Q) (h : List Happened) (now : ℕ) → Stands stands says d h
-      → DueIs d.rule now (first_at (strict_of says d) now (bare h) (classes_in d.rows)) (first_waiting (classes_in d.rows) (bare h)) (strict_due d)
-  what_is d h now s = due_is (classes_in d.rows) d.rule (answering says d.rows) now (bare h) (list_in d.rows) (classes_in d.rows) (λ c. (s.told.shown c).packets)
+  what_is : (d : Ordered Q) (h : List LabelledEvent) (now : ℕ) → Represents stands says d h
+      → DueIs d.rule now (first_at (strict_of says d) now (unlabelled h) (classes_in d.rows)) (first_waiting (classes_in d.rows) (unlabelled h)) (strict_due d)
+  what_is d h now s = due_is (classes_in d.rows) d.rule (answering says d.rows) now (unlabelled h) (list_in d.rows) (classes_in d.rows) (λ c. (s.recorded.shown c).packets)
 
   -- what is due after a history is the policy's
-  pub due_of_policy : (d : Ordered Q) (h : List Happened) (now : ℕ) → Stands stands says d h → IsDue (strict_of says d) (bare h) now (strict_due d)
-  due_of_policy d h now s = due_by d.rule (classes_in d.rows) (answering says d.rows) now (bare h) (strict_due d) (what_is d h now s)
+  pub due_of_policy : (d : Ordered Q) (h : List LabelledEvent) (now : ℕ) → Represents stands says d h → IsDue (strict_of says d) (unlabelled h) now (strict_due d)
+  due_of_policy d h now s = due_by d.rule (classes_in d.rows) (answering says d.rows) now (unlabelled h) (strict_due d) (what_is d h now s)
 
   -- the policy of a row that answers alike
-  pub same_policy : (most : Q → ℕ) (d : Ordered Q) (rows : Rowed Q) → SameRow most says d.rows rows → strict_of says (record { rule = d.rule; rows = rows }) ≡ strict_of says d
+  pub same_policy : (most : Q → ℕ) (d : Ordered Q) (rows : ClassQueuesView Q) → SameRow most says d.rows rows → strict_of says (record { rule = d.rule; rows = rows }) ≡ strict_of says d
   same_policy most d rows s =
       let first : holding rows.first rows.holds ≡ holding d.rows.first d.rows.holds = ap (λ (n : ℕ). holding n rows.holds) s.first ∙ ap (holding d.rows.first) s.holds in
       ap (λ (cs : List ℕ). strict cs d.rule (answering says rows)) first
@@ -187,37 +187,37 @@ module _ {Q : Type 0} (stands : Q → List QueueEvent → Type 0) (says : Q → 
   }
 
   -- a sending of what is due
-  pub sent_stands : (most : Q → ℕ) (d : Ordered Q) (rows : Rowed Q) (h : List Happened) (clock : Clock) (s : Sending) → SameRow most says d.rows rows → Stands stands says d h
-      → Told stands rows (sent_of s ∷ h) → strict_due d ≡ Send s.ticket s.class s.len s.rule → IsChoice s.start clock (bare h)
-      → Stands stands says (record { rule = d.rule; rows = rows }) (sent_of s ∷ h)
-  sent_stands most d rows h clock s same k told due o =
-      let D : Pick → Type 0 = λ z. DueIs d.rule s.start (first_at (strict_of says d) s.start (bare h) (classes_in d.rows)) (first_waiting (classes_in d.rows) (bare h)) z in
+  pub sent_stands : (most : Q → ℕ) (d : Ordered Q) (rows : ClassQueuesView Q) (h : List LabelledEvent) (clock : Clock) (s : Sending) → SameRow most says d.rows rows → Represents stands says d h
+      → RowRepresents stands rows (sent_of s ∷ h) → strict_due d ≡ Send s.ticket s.class s.len s.rule → IsChoice s.start clock (unlabelled h)
+      → Represents stands says (record { rule = d.rule; rows = rows }) (sent_of s ∷ h)
+  sent_stands most d rows h clock s same k recorded due o =
+      let D : Pick → Type 0 = λ z. DueIs d.rule s.start (first_at (strict_of says d) s.start (unlabelled h) (classes_in d.rows)) (first_waiting (classes_in d.rows) (unlabelled h)) z in
       let is = subst D due (what_is d h s.start k) in
       let e : Ordered Q = record { rule = d.rule; rows = rows } in
       let x = sends_front d.rule (list_in d.rows) (classes_in d.rows) s.ticket s.class s.len s.rule due in
-      let f = front_shown s.class (list_in d.rows s.class) h x.entry_is (k.told.shown s.class) x.front in
-      let was : WasDue (strict_of says d) (bare h) (record { class = s.class; len = s.len; rule = s.rule; start = s.start; end = s.end }) = record {
+      let f = front_shown s.class (list_in d.rows s.class) h x.entry_is (k.recorded.shown s.class) x.front in
+      let was : WasDue (strict_of says d) (unlabelled h) (record { class = s.class; len = s.len; rule = s.rule; start = s.start; end = s.end }) = record {
         packet = f.packet;
         front = f.front;
         len = sym x.long ∙ f.len;
         arrived = o.arrived;
         started = o.started;
         first = is.0;
-        pick = choice_is (first_waiting (classes_in d.rows) (bare h)) s.class d.rule s.rule is.1 is.2;
+        pick = choice_is (first_waiting (classes_in d.rows) (unlabelled h)) s.class d.rule s.rule is.1 is.2;
       } in
-      let O : Policy → Type 0 = λ y. IsOrderly y (bare (sent_of s ∷ h)) in
-      record { told = told; orderly = subst O (sym (same_policy most d rows same)) (was, k.orderly); plain = plain e }
+      let O : Policy → Type 0 = λ y. IsOrderly y (unlabelled (sent_of s ∷ h)) in
+      record { recorded = recorded; orderly = subst O (sym (same_policy most d rows same)) (was, k.orderly); plain = plain e }
 
   -- an offer
-  pub offer_stands : (most : Q → ℕ) (d : Ordered Q) (rows : Rowed Q) (h : List Happened) (x : Offering)
-      → SameRow most says d.rows rows → Stands stands says d h → IsOffer (bare_arrival x) (bare h) → Answers stands says d.rows rows h x.class x.entry x.now x.words x.verdict x.after
-      → IsAnswer (strict_of says d) (bare h) x.words (bare_arrival x) x.verdict x.after
-      × Stands stands says (record { rule = d.rule; rows = rows }) (offer_of (strict_of says d) h x.entry.ticket x.words (bare_arrival x) ∷ h)
+  pub offer_stands : (most : Q → ℕ) (d : Ordered Q) (rows : ClassQueuesView Q) (h : List LabelledEvent) (x : Offering)
+      → SameRow most says d.rows rows → Represents stands says d h → IsOffer (bare_arrival x) (unlabelled h) → Answers stands says d.rows rows h x.class x.entry x.now x.words x.verdict x.after
+      → IsAnswer (strict_of says d) (unlabelled h) x.words (bare_arrival x) x.verdict x.after
+      × Represents stands says (record { rule = d.rule; rows = rows }) (offer_of (strict_of says d) h x.entry.ticket x.words (bare_arrival x) ∷ h)
   offer_stands most d rows h x same k o a =
       let e : Ordered Q = record { rule = d.rule; rows = rows } in
-      let O : Policy → Type 0 = λ y. IsOrderly y (bare (offer_of (strict_of says d) h x.entry.ticket x.words (bare_arrival x) ∷ h)) in (
+      let O : Policy → Type 0 = λ y. IsOrderly y (unlabelled (offer_of (strict_of says d) h x.entry.ticket x.words (bare_arrival x) ∷ h)) in (
         record { verdict = a.verdict; words = a.words },
-        record { told = a.told; orderly = subst O (sym (same_policy most d rows same)) (o, refl, k.orderly); plain = plain e },
+        record { recorded = a.recorded; orderly = subst O (sym (same_policy most d rows same)) (o, refl, k.orderly); plain = plain e },
       )
 
 -- what is due has a list that is not empty

@@ -1,7 +1,7 @@
 -- One class whose packets start at the multiples of a gap: its policy, and what it holds.
 use Rattle.std.specs.Prelude.{◌≡◌, ◌≤◌, ◌==◌, ◌*◌, ℕ, Bool, true, List, [], ◌∷◌, length, if◌then◌else◌}
 use Rattle.altq_model.specs.declared.Rule.TheVariants.{Own}
-use Rattle.altq_model.specs.History.{Happened, bare}
+use Rattle.altq_model.specs.History.{LabelledEvent, unlabelled}
 use Rattle.altq_model.specs.Policies.{Answering}
 use Rattle.altq_model.specs.Play.{Policy}
 use Rattle.play_base.specs.Units.{ceil_div}
@@ -11,7 +11,7 @@ use Rattle.discipline.specs.declared.pick.Pick.{Pick}
 use Rattle.discipline.specs.declared.pick.Pick.TheVariants.{Send, Wait, Empty}
 use Rattle.discipline.specs.Moments.{IsOrderly}
 use Rattle.plain_disciplines.specs.Plain.{IsPlain}
-use Rattle.class_rows.specs.Rows.{Rowed, Told, answering, list_in}
+use Rattle.class_rows.specs.Rows.{ClassQueuesView, RowRepresents, answering, list_in}
 
 -- the least multiple of a gap from a moment on
 abbrev pub multiple_from : (gap t : ℕ) → ℕ
@@ -29,10 +29,10 @@ paced class gap answer = record {
 -- what contracts see of it
 pub record Pacing (Q : Type 0) : Type 0 where
   pub gap : ℕ
-  pub rows : Rowed Q
+  pub rows : ClassQueuesView Q
 
 -- there is one class
-pub record IsPacing {Q : Type 0} (gap : ℕ) (d : Rowed Q) : Type 0 where
+pub record IsPacing {Q : Type 0} (gap : ℕ) (d : ClassQueuesView Q) : Type 0 where
   pub gap_there : 1 ≤ gap
   pub one : length d.queues ≡ 1
   pub holds : d.holds ≡ true ∷ []
@@ -53,8 +53,8 @@ abbrev pub paced_of : {Q : Type 0} → (Q → Saying) → Pacing Q → Policy
 paced_of says d = paced d.rows.first d.gap (answering says d.rows)
 
 -- it stands for a history: its class is told it, and the history is in order
-pub record Stands {Q : Type 0} (stands : Q → List QueueEvent → Type 0) (says : Q → Saying) (d : Pacing Q) (h : List Happened) : Type 0 where
+pub record Represents {Q : Type 0} (stands : Q → List QueueEvent → Type 0) (says : Q → Saying) (d : Pacing Q) (h : List LabelledEvent) : Type 0 where
   pub gap : 1 ≤ d.gap
-  pub told : Told stands d.rows h
-  pub orderly : IsOrderly (paced_of says d) (bare h)
+  pub recorded : RowRepresents stands d.rows h
+  pub orderly : IsOrderly (paced_of says d) (unlabelled h)
   pub plain : IsPlain (paced_of says d)

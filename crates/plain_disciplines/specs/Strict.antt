@@ -1,7 +1,7 @@
 -- Classes in a row, of which the first that is not empty is sent: what it holds, and the histories that it stands for.
 use Rattle.std.specs.Prelude.{◌≡◌, ◌≤◌, ◌+◌, ℕ, zero, suc, true, List, [], ◌∷◌, length, replicate}
 use Rattle.altq_model.specs.declared.Rule.{Rule}
-use Rattle.altq_model.specs.History.{Happened, bare}
+use Rattle.altq_model.specs.History.{LabelledEvent, unlabelled}
 use Rattle.altq_model.specs.Policies.{strict}
 use Rattle.altq_model.specs.Play.{Policy}
 use Rattle.leaf_queue.specs.declared.node.Entry.{Entry}
@@ -10,7 +10,7 @@ use Rattle.discipline.specs.declared.pick.Pick.{Pick}
 use Rattle.discipline.specs.declared.pick.Pick.TheVariants.{Send, Empty}
 use Rattle.discipline.specs.Moments.{IsOrderly}
 use Rattle.plain_disciplines.specs.Plain.{IsPlain}
-use Rattle.class_rows.specs.Rows.{Rowed, Told, answering, classes_in, list_in}
+use Rattle.class_rows.specs.Rows.{ClassQueuesView, RowRepresents, answering, classes_in, list_in}
 
 -- `count` classes from c on
 abbrev pub classes_from : (c count : ℕ) → List ℕ
@@ -29,10 +29,10 @@ first_pick rule lists (c ∷ cs) = pick_head c rule (lists c) (first_pick rule l
 -- what contracts see of it
 pub record Ordered (Q : Type 0) : Type 0 where
   pub rule : Rule
-  pub rows : Rowed Q
+  pub rows : ClassQueuesView Q
 
 -- every class is a queue class, and the classes fit 32 bits
-pub record IsStrict {Q : Type 0} (d : Rowed Q) : Type 0 where
+pub record IsStrict {Q : Type 0} (d : ClassQueuesView Q) : Type 0 where
   pub holds : d.holds ≡ replicate (length d.queues) true
   pub first_bound : d.first ≤ 1000000
   pub count_bound : length d.queues ≤ 256
@@ -46,7 +46,7 @@ abbrev pub strict_of : {Q : Type 0} → (Q → Saying) → Ordered Q → Policy
 strict_of says d = strict (classes_in d.rows) d.rule (answering says d.rows)
 
 -- it stands for a history
-pub record Stands {Q : Type 0} (stands : Q → List QueueEvent → Type 0) (says : Q → Saying) (d : Ordered Q) (h : List Happened) : Type 0 where
-  pub told : Told stands d.rows h
-  pub orderly : IsOrderly (strict_of says d) (bare h)
+pub record Represents {Q : Type 0} (stands : Q → List QueueEvent → Type 0) (says : Q → Saying) (d : Ordered Q) (h : List LabelledEvent) : Type 0 where
+  pub recorded : RowRepresents stands d.rows h
+  pub orderly : IsOrderly (strict_of says d) (unlabelled h)
   pub plain : IsPlain (strict_of says d)

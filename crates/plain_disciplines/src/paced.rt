@@ -1,11 +1,11 @@
 // One class, whose packets start at the multiples of a gap.
 ghost use Rattle.std.specs.Prelude.{◌≡◌, ◌≤◌, ◌<◌, ◌^◌, ◌∷◌, [], IfOk};
 ghost use Rattle.leaf_queue.specs.Queue.{by_queues};
-ghost use Rattle.plain_disciplines.specs.Paced.{IsPacing, Pacing, Stands, due_of, paced, paced_of};
+ghost use Rattle.plain_disciplines.specs.Paced.{IsPacing, Pacing, Represents, due_of, paced, paced_of};
 
 use crate::{Discipline, Pick, Sending};
 use altq_model::{Rule, Verdict};
-use class_rows::Rows;
+use class_rows::ClassQueues;
 use leaf_queue::{Entry, QueueRule, Words};
 use link_clock::LinkClock;
 use play_base::{NoMemory, Ticket};
@@ -16,7 +16,7 @@ use std::marker::Model;
 #[derive(Drop)]
 pub struct Paced<Q: QueueRule + Drop> {
     gap: u64,
-    rows: Rows<Q>,
+    rows: ClassQueues<Q>,
 }
 
 impl<Q: QueueRule + Drop> Model for Paced<Q> {
@@ -35,42 +35,37 @@ impl<Q: QueueRule + Drop> Paced<Q> {
         requires least { 1 ≤ Q.most queue }
         requires most { Q.most queue ≤ 10000 }
         requires queue { Q.stands queue [] }
-        ensures empty { IfOk result (λ p. ⟦<Paced<Q> as Discipline>⟧.stands p []) }
-        ensures policy { IfOk result (λ p. ⟦<Paced<Q> as Discipline>⟧.policy p ≡ paced class gap (by_queues class (Q.says queue ∷ []))) }
-        ensures limit { IfOk result (λ p. ⟦<Paced<Q> as Discipline>⟧.limits p class ≡ Q.most queue) }
+        ensures empty { IfOk result (λ p. (⟦<Paced<Q> as Discipline>⟧.view p).represents []) }
+        ensures policy { IfOk result (λ p. (⟦<Paced<Q> as Discipline>⟧.view p).policy ≡ paced class gap (by_queues class (Q.says queue ∷ []))) }
+        ensures limit { IfOk result (λ p. (⟦<Paced<Q> as Discipline>⟧.view p).limits class ≡ Q.most queue) }
     {
         let mut queues = Vec::new(alloc);
         queues.push(queue)?;
         let holds = vec![in alloc; true; 1]?;
-        let rows = Rows::build(alloc, class, queues, holds)?;
+        let rows = ClassQueues::build(alloc, class, queues, holds)?;
         Ok(Paced { gap, rows })
     }
 }
 
 impl<Q: QueueRule + Drop> Discipline for Paced<Q> {
-    ghost use Rattle.std.specs.Prelude.{None};
-    ghost use Rattle.altq_model.specs.History.{bare, offered};
+    ghost use Rattle.std.specs.Prelude.{[], None};
+    ghost use Rattle.altq_model.specs.History.{unlabelled, offered};
     ghost use Rattle.altq_model.specs.Link.{link};
     ghost use Rattle.class_rows.specs.Rows.{limit_in, list_in};
     ghost use Rattle.class_rows.proofs.RowLemmas.{none_is_least};
 
-    ghost lists = { λ p. list_in p.rows };
-
-    ghost limits = { λ p. limit_in Q.most p.rows };
-
-    ghost stands = { λ p h. Stands Q.stands Q.says p h };
-
-    ghost due = { λ p clock now. due_of p now };
-
-    ghost policy = { λ p. paced_of Q.says p };
-
-    ghost link_rate = { λ p. None };
-
-    ghost given = { λ p. 0 };
-
-    ghost moment = { λ p. 0 };
-
-    ghost ended = { λ p. 0 };
+    ghost view = { λ p. record {
+      policy = paced_of Q.says p;
+      limits = limit_in Q.most p.rows;
+      link_rate = None;
+      fixed = [];
+      lists = list_in p.rows;
+      represents = λ h. Represents Q.stands Q.says p h;
+      due = λ clock now. due_of p now;
+      given = 0;
+      moment = 0;
+      ended = 0;
+    } };
 
     fn room(&self) -> u32 {
         self.rows.room()
@@ -110,13 +105,13 @@ impl<Q: QueueRule + Drop> Discipline for Paced<Q> {
         self.rows.take(sending.class, sending.start);
     }
 
-    ghost shows = { λ p h s. s.told.shown };
+    ghost shows = { λ p h s. s.recorded.shown };
 
-    ghost counts = { λ p h s. none_is_least (offered (bare h)) };
+    ghost counts = { λ p h s. none_is_least (offered (unlabelled h)) };
 
     ghost moments = { λ p h s t l b. none_is_least t };
 
-    ghost ends = { λ p h s r l. none_is_least (link r (bare h)).free };
+    ghost ends = { λ p h s r l. none_is_least (link r (unlabelled h)).free };
 
     ghost distinct = { λ p h s. s.plain.distinct };
 

@@ -2,12 +2,12 @@
 ghost use Rattle.std.specs.Prelude.{◌≡◌, ◌≤◌, ◌<◌, ◌+◌, ◌^◌, ◌↔◌, [], ℕ, All, IfOk, length, map};
 ghost use Rattle.leaf_queue.specs.Queue.{by_queues};
 ghost use Rattle.altq_model.specs.Policies.{strict};
-ghost use Rattle.class_rows.specs.Rows.{IsNew, classes_in, limit_at, list_in};
-ghost use Rattle.plain_disciplines.specs.Strict.{IsStrict, Ordered, Stands, classes_from, first_pick, strict_due, strict_of};
+ghost use Rattle.class_rows.specs.Rows.{IsNewQueue, classes_in, limit_at, list_in};
+ghost use Rattle.plain_disciplines.specs.Strict.{IsStrict, Ordered, Represents, classes_from, first_pick, strict_due, strict_of};
 
 use crate::{Discipline, Pick, Sending};
 use altq_model::{Rule, Verdict};
-use class_rows::Rows;
+use class_rows::ClassQueues;
 use leaf_queue::{Entry, QueueRule, Words};
 use link_clock::LinkClock;
 use play_base::{NoMemory, Ticket};
@@ -18,7 +18,7 @@ use std::marker::Model;
 #[derive(Drop)]
 pub struct Strict<Q: QueueRule + Drop> {
     rule: Rule,
-    rows: Rows<Q>,
+    rows: ClassQueues<Q>,
 }
 
 impl<Q: QueueRule + Drop> Model for Strict<Q> {
@@ -30,7 +30,7 @@ impl<Q: QueueRule + Drop> Model for Strict<Q> {
 }
 
 // The head of the first list that is not empty.
-fn pick_from<Q: QueueRule + Drop>(rule: Rule, rows: &Rows<Q>) -> Pick
+fn pick_from<Q: QueueRule + Drop>(rule: Rule, rows: &ClassQueues<Q>) -> Pick
     requires strict { IsStrict rows.now }
     ensures due { result ≡ first_pick rule (list_in rows.now) (classes_in rows.now) }
     ensures empty { (result ≡ Pick.Empty) ↔ ((c : ℕ) → list_in rows.now c ≡ []) }
@@ -62,42 +62,37 @@ impl<Q: QueueRule + Drop> Strict<Q> {
         requires first { first ≤ 1000000 }
         requires least { 1 ≤ length queues.items }
         requires most { length queues.items ≤ 256 }
-        requires queues { All (IsNew Q.stands Q.most) queues.items }
-        ensures empty { IfOk result (λ s. ⟦<Strict<Q> as Discipline>⟧.stands s []) }
-        ensures policy { IfOk result (λ s. ⟦<Strict<Q> as Discipline>⟧.policy s
+        requires queues { All (IsNewQueue Q.stands Q.most) queues.items }
+        ensures empty { IfOk result (λ s. (⟦<Strict<Q> as Discipline>⟧.view s).represents []) }
+        ensures policy { IfOk result (λ s. (⟦<Strict<Q> as Discipline>⟧.view s).policy
             ≡ strict (classes_from first (length queues.items)) rule (by_queues first (map Q.says queues.items))) }
-        ensures limits { IfOk result (λ s. ⟦<Strict<Q> as Discipline>⟧.limits s ≡ limit_at first (map Q.most queues.items)) }
+        ensures limits { IfOk result (λ s. (⟦<Strict<Q> as Discipline>⟧.view s).limits ≡ limit_at first (map Q.most queues.items)) }
     {
         let holds = vec![in alloc; true; queues.len()]?;
-        let rows = Rows::build(alloc, first, queues, holds)?;
+        let rows = ClassQueues::build(alloc, first, queues, holds)?;
         Ok(Strict { rule, rows })
     }
 }
 
 impl<Q: QueueRule + Drop> Discipline for Strict<Q> {
-    ghost use Rattle.std.specs.Prelude.{None};
-    ghost use Rattle.altq_model.specs.History.{bare, offered};
+    ghost use Rattle.std.specs.Prelude.{[], None};
+    ghost use Rattle.altq_model.specs.History.{unlabelled, offered};
     ghost use Rattle.altq_model.specs.Link.{link};
     ghost use Rattle.class_rows.specs.Rows.{limit_in, list_in};
     ghost use Rattle.class_rows.proofs.RowLemmas.{none_is_least};
 
-    ghost lists = { λ s. list_in s.rows };
-
-    ghost limits = { λ s. limit_in Q.most s.rows };
-
-    ghost stands = { λ s h. Stands Q.stands Q.says s h };
-
-    ghost due = { λ s clock now. strict_due s };
-
-    ghost policy = { λ s. strict_of Q.says s };
-
-    ghost link_rate = { λ s. None };
-
-    ghost given = { λ s. 0 };
-
-    ghost moment = { λ s. 0 };
-
-    ghost ended = { λ s. 0 };
+    ghost view = { λ s. record {
+      policy = strict_of Q.says s;
+      limits = limit_in Q.most s.rows;
+      link_rate = None;
+      fixed = [];
+      lists = list_in s.rows;
+      represents = λ h. Represents Q.stands Q.says s h;
+      due = λ clock now. strict_due s;
+      given = 0;
+      moment = 0;
+      ended = 0;
+    } };
 
     fn room(&self) -> u32 {
         self.rows.room()
@@ -124,13 +119,13 @@ impl<Q: QueueRule + Drop> Discipline for Strict<Q> {
         self.rows.take(sending.class, sending.start);
     }
 
-    ghost shows = { λ s h k. k.told.shown };
+    ghost shows = { λ s h k. k.recorded.shown };
 
-    ghost counts = { λ s h k. none_is_least (offered (bare h)) };
+    ghost counts = { λ s h k. none_is_least (offered (unlabelled h)) };
 
     ghost moments = { λ s h k t l b. none_is_least t };
 
-    ghost ends = { λ s h k r l. none_is_least (link r (bare h)).free };
+    ghost ends = { λ s h k r l. none_is_least (link r (unlabelled h)).free };
 
     ghost distinct = { λ s h k. k.plain.distinct };
 

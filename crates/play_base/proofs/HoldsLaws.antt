@@ -1,7 +1,7 @@
 -- What one output file holds while calls on it and on others are made.
 use Rattle.std.specs.Prelude.{◌≡◌, ◌≢◌, ℕ, List, ◌++◌, [], IsTrue, IsSome}
 use Rattle.std.proofs.Common.{◌∙◌, ap, sym}
-use Rattle.play_base.specs.View.{View, Keeps, Any, Unchanged, Opened, Created, Took, Wrote, Said}
+use Rattle.play_base.specs.View.{View, Keeps, Everything, Unchanged, Opened, Created, Took, Wrote, Said}
 use Rattle.play_base.proofs.ViewLaws.{still_there, part_of_there, is_some_of}
 use Rattle.play_base.specs.Holds.{HoldsAt, Apart}
 
@@ -24,7 +24,7 @@ holds_wrote v w f xs ys h x = record {
 }
 
 -- a call that leaves every name leaves what the file holds
-pub holds_kept : (F : ℕ → Type 0) (v w : View) (f : ℕ) (xs : List ℕ) → HoldsAt v f xs → Keeps Any F v w → HoldsAt w f xs
+pub holds_kept : (F : ℕ → Type 0) (v w : View) (f : ℕ) (xs : List ℕ) → HoldsAt v f xs → Keeps Everything F v w → HoldsAt w f xs
 holds_kept F v w f xs h k = record {
   there = still_there _ _ v w f k h.there;
   bytes = λ t. let told : IsTrue v.tells = sym k.tells ∙ t in ap w.bytes (name_kept _ _ v w f k h.there) ∙ k.bytes (v.name f) tt ∙ h.bytes told;

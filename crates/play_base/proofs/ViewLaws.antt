@@ -2,7 +2,7 @@
 use Rattle.std.specs.Prelude.{◌≡◌, ◌≢◌, ℕ, List, ◌++◌, [], ◌≤◌, None, Some, IsTrue, IsSome}
 use Rattle.std.proofs.Common.{arith, ◌∙◌, ap, sym, refl, subst, append_assoc, append-nil}
 use Rattle.std.specs.declared.option.Option.{Option}
-use Rattle.play_base.specs.View.{View, Rose, Later, SameCounts, Keeps, Any, Unchanged, Took, Wrote, Opened, Created, OtherThan, NotNamed}
+use Rattle.play_base.specs.View.{View, Rose, Later, SameCounts, Keeps, Everything, Unchanged, Took, Wrote, Opened, Created, OtherThan, NotNamed}
 
 pub later_trans : (a b c : View) → Later a b → Later b c → Later a c
 later_trans a b c x y = record {
@@ -58,7 +58,7 @@ keeps_refl N F v = record {
 }
 
 pub took_nothing : (a : View) (file : ℕ) → Took a a file []
-took_nothing a file = record { left = λ all h. (all, refl, h); keeps = keeps_refl Any (λ f. f ≢ file) a; none = λ f h. h; said = refl }
+took_nothing a file = record { left = λ all h. (all, refl, h); keeps = keeps_refl Everything (λ f. f ≢ file) a; none = λ f h. h; said = refl }
 
 pub took_more : (a b c : View) (file : ℕ) (xs ys : List ℕ) → Took a b file xs → Took b c file ys → Took a c file (xs ++ ys)
 took_more a b c file xs ys x y = record {
@@ -66,7 +66,7 @@ took_more a b c file xs ys x y = record {
       let one = x.left all h in
       let two = y.left one.0 one.2 in
       (two.0, one.1 ∙ ap (λ r. xs ++ r) two.1 ∙ sym (append_assoc xs ys two.0), two.2);
-  keeps = keeps_trans Any (λ f. f ≢ file) a b c x.keeps y.keeps;
+  keeps = keeps_trans Everything (λ f. f ≢ file) a b c x.keeps y.keeps;
   none = λ f h. y.none f (x.none f h);
   said = y.said ∙ x.said;
 }
@@ -123,7 +123,7 @@ wrote_unchanged a b c file xs there x y =
     let p = part_of_there (a.part file) there in
     let none : Wrote b c file [] = record {
       grown = λ t all h. y.keeps.bytes (b.name file) tt ∙ h ∙ ap Some (sym (append-nil all));
-      keeps = keeps_fewer Any (λ n. n ≢ b.name file) Any (λ f. b.name f ≢ b.name file) b c (λ n _. tt) (λ f _. tt) y.keeps;
+      keeps = keeps_fewer Everything (λ n. n ≢ b.name file) Everything (λ f. b.name f ≢ b.name file) b c (λ n _. tt) (λ f _. tt) y.keeps;
       none = y.none;
       said = y.said;
     } in
@@ -131,7 +131,7 @@ wrote_unchanged a b c file xs there x y =
     subst P (append-nil xs) (wrote_more a b c file p.0 xs [] p.1 x none)
 
 -- what is kept from an opening on is kept over it, but of the new file
-pub opened_then : (N : List ℕ → Type 0) (a b c : View) (part : ℕ) (name : List ℕ) (file : ℕ) → Opened a b part name file → Keeps N (λ f. f ≢ file) b c → Keeps N Any a c
+pub opened_then : (N : List ℕ → Type 0) (a b c : View) (part : ℕ) (name : List ℕ) (file : ℕ) → Opened a b part name file → Keeps N (λ f. f ≢ file) b c → Keeps N Everything a c
 opened_then N a b c part name file x y = record {
   tells = y.tells ∙ x.keeps.tells;
   bytes = λ n h. y.bytes n h ∙ x.keeps.bytes n tt;

@@ -63,8 +63,8 @@ pub record Keeps (N : List ℕ → Type 0) (F : ℕ → Type 0) (old new : View)
   pub later : Later old new
 
 -- every name, and every file
-abbrev pub Any : {X : Type 0} → X → Type 0
-Any x = Unit {0}
+abbrev pub Everything : {X : Type 0} → X → Type 0
+Everything x = Unit {0}
 
 -- where the object tells: every name but this
 abbrev pub OtherThan : View → List ℕ → List ℕ → Type 0
@@ -80,12 +80,12 @@ NoneAppears old new = (f : ℕ) → old.part f ≡ None → new.part f ≡ None
 
 -- nothing changes but counts
 pub record Unchanged (old new : View) : Type 0 where
-  pub keeps : Keeps Any Any old new
+  pub keeps : Keeps Everything Everything old new
   pub none : NoneAppears old new
   pub said : new.said ≡ old.said
 
 -- a file that the object did not have before, with this part and name
-pub record IsNew (old new : View) (part_given : ℕ) (name_given : List ℕ) (file : ℕ) : Type 0 where
+pub record IsNewFile (old new : View) (part_given : ℕ) (name_given : List ℕ) (file : ℕ) : Type 0 where
   pub fresh : old.part file ≡ None
   pub part : new.part file ≡ Some part_given
   pub name : IsTrue old.tells → new.name file ≡ name_given
@@ -94,20 +94,20 @@ pub record IsNew (old new : View) (part_given : ℕ) (name_given : List ℕ) (fi
 
 -- the new file has the bytes under the name left
 pub record Opened (old new : View) (part : ℕ) (name : List ℕ) (file : ℕ) : Type 0 where
-  pub is_new : IsNew old new part name file
+  pub is_new : IsNewFile old new part name file
   pub left : IsTrue old.tells → IsSome (old.bytes name) × (new.left file ≡ old.bytes name)
-  pub keeps : Keeps Any Any old new
+  pub keeps : Keeps Everything Everything old new
 
 -- The name is there and empty, and the new file has nothing left. What older files of that name have left is open.
 pub record Created (old new : View) (part : ℕ) (name : List ℕ) (file : ℕ) : Type 0 where
-  pub is_new : IsNew old new part name file
+  pub is_new : IsNewFile old new part name file
   pub empty : IsTrue old.tells → (new.bytes name ≡ Some []) × (new.left file ≡ Some [])
   pub keeps : Keeps (λ n. n ≢ name) (λ f. old.name f ≢ name) old new
 
 -- the file loses these bytes from the front of what it has left
 pub record Took (old new : View) (file : ℕ) (bytes : List ℕ) : Type 0 where
   pub left : (all : List ℕ) → old.left file ≡ Some all → (rest : List ℕ) × (all ≡ bytes ++ rest) × (new.left file ≡ Some rest)
-  pub keeps : Keeps Any (λ f. f ≢ file) old new
+  pub keeps : Keeps Everything (λ f. f ≢ file) old new
   pub none : NoneAppears old new
   pub said : new.said ≡ old.said
 
@@ -125,7 +125,7 @@ WroteFront old new file bytes = (k : ℕ) × Wrote old new file (take k bytes)
 -- the text said grows by this
 pub record Said (old new : View) (text : List ℕ) : Type 0 where
   pub grown : IsTrue old.tells → new.said ≡ old.said ++ text
-  pub keeps : Keeps Any Any old new
+  pub keeps : Keeps Everything Everything old new
   pub none : NoneAppears old new
 
 -- the count of read faults of the file's part rose

@@ -16,7 +16,7 @@ use Rattle.play_chain.specs.declared.seconds.Second.{Second}
 use Rattle.play_chain.specs.declared.seconds.Second.TheVariants as second
 use Rattle.play_chain.specs.declared.path.Path.{Path}
 use Rattle.play_chain.specs.Path.{fate_under, kept_under, numbers_of, outcome_of, passage, second_number, second_outcome, sendings, with_sent}
-use Rattle.play_chain.specs.Stands.{HasSeconds, StandsFor, TakesFirst, TakesSecond}
+use Rattle.play_chain.specs.Stands.{HasSeconds, Represents, TakesFirst, TakesSecond}
 use Rattle.play_chain.specs.Tables.{IsFirstTable, first_by, first_row, in_tables, outcome_by, passage_by, second_in, second_row}
 use Rattle.play_chain.proofs.FirstLemmas.{new_in, not_same}
 use Rattle.play_chain.proofs.ListLemmas.{IsSending, WasSent, fate_none, fate_other, none_kept, numbers_more, occurs_append, other_is, sendings_more, there, was_sent}
@@ -68,7 +68,7 @@ passages t rows fates js x y n =
 -- what it stands for by its tables
 pub stands_by : (p : Path) (fates : List KeptFate) (js : List Decision) → IsFirstTable p.firsts fates
     → HasSeconds p.seconds.rows.items (length (sendings fates)) js
-    → ((n : ℕ) → occurs n (numbers_of fates) ≤ 1) → ((k : ℕ) → length (sendings fates) < k → fate_under js k ≡ None) → StandsFor p fates js
+    → ((n : ℕ) → occurs n (numbers_of fates) ≤ 1) → ((k : ℕ) → length (sendings fates) < k → fate_under js k ≡ None) → Represents p fates js
 stands_by p fates js x y once of_sent = record {
   table = passages p.firsts p.seconds.rows.items fates js x y.stands;
   firsts = x;
@@ -89,7 +89,7 @@ pub record HasRoom (p : Path) (rows : List Second) (place : ℕ) : Type 0 where
   pub longer : length p.seconds.rows.items ≤ length rows
   pub room : place < length rows
 
-module _ (p : Path) (rows : List Second) (place : ℕ) (h : HasRoom p rows place) (fates : List KeptFate) (js : List Decision) (s : StandsFor p fates js) where
+module _ (p : Path) (rows : List Second) (place : ℕ) (h : HasRoom p rows place) (fates : List KeptFate) (js : List Decision) (s : Represents p fates js) where
   next_is : place ≡ length (sendings fates) + 1
   next_is = omega (arith, h.next, s.firsts.sent)
 
@@ -128,7 +128,7 @@ once_more n m ms l h = omega (arith, occurs_append m ms (n ∷ []), once_by n m 
 pub stands_first : (p : Path) (t : Firsts) (rows : List Second) (place : ℕ) (x : KeptFate) → TakesFirst p x.number → HasRoom p rows place
     → ((fates : List KeptFate) → IsFirstTable p.firsts fates → kept_under fates x.number ≡ None → IsFirstTable t (fates ++ x ∷ []))
     → (q : Path) → q.firsts ≡ t → q.seconds.rows.items ≡ rows
-    → (fates : List KeptFate) (js : List Decision) → StandsFor p fates js → StandsFor q (fates ++ x ∷ []) js
+    → (fates : List KeptFate) (js : List Decision) → Represents p fates js → Represents q (fates ++ x ∷ []) js
 stands_first p t rows place x takes room add q firsts seconds fates js s =
     let none = new_in p.firsts x.number takes.first fates takes.stands.firsts s.firsts takes.new in
     let new = none_kept fates x.number none in
@@ -147,7 +147,7 @@ stands_first p t rows place x takes room add q firsts seconds fates js s =
 -- one more second fate
 pub stands_second : (p q : Path) (k : ℕ) (f : Fate) → TakesSecond p k → q.firsts ≡ p.firsts → HasSet p.seconds.rows.items q.seconds.rows.items k f
     → length q.seconds.rows.items ≡ length p.seconds.rows.items
-    → (fates : List KeptFate) (js : List Decision) → StandsFor p fates js → StandsFor q fates (js ++ (k, f) ∷ [])
+    → (fates : List KeptFate) (js : List Decision) → Represents p fates js → Represents q fates (js ++ (k, f) ∷ [])
 stands_second p q k f takes firsts set same fates js s =
     let few : k ≤ length (sendings fates) = omega (arith, takes.sent, takes.stands.firsts.sent, s.firsts.sent) in
     let theirs : fate_under takes.second k ≡ None = fate_none takes.second k takes.new in

@@ -9,7 +9,7 @@ use Rattle.play_loop.specs.declared.kept.KeptFate.{KeptFate}
 use Rattle.play_chain.specs.declared.path.Path.{Path}
 use Rattle.play_chain.specs.declared.seconds.Seconds.{Seconds}
 use Rattle.play_chain.specs.Path.{fate_under, sendings}
-use Rattle.play_chain.specs.Stands.{StandsFor, of_sendings}
+use Rattle.play_chain.specs.Stands.{Represents, of_sendings}
 use Rattle.play_chain.specs.Tables.{AreOnce, IsFirstTable, IsSecondTable, second_in, second_row}
 use Rattle.play_chain.proofs.PathLemmas.{stands_by}
 
@@ -48,7 +48,7 @@ fate_past c (x ∷ js) k l =
 -- a path by the tables of both plays
 pub stands_through : (p : Path) (u : Seconds) (fates : List KeptFate) (js : List Decision) → AreOnce fates → IsFirstTable p.firsts fates → IsSecondTable u js
     → ((k : ℕ) → second_in p.seconds.rows.items k ≡ second_in u.rows.items k) → p.firsts.sent < length p.seconds.rows.items
-    → StandsFor p fates (of_sendings (length (sendings fates)) js)
+    → Represents p fates (of_sendings (length (sendings fates)) js)
 stands_through p u fates js once x y same room =
     let c : ℕ = length (sendings fates) in
     stands_by p fates (of_sendings c js) x

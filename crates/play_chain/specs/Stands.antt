@@ -15,7 +15,7 @@ pub record HasSeconds (rows : List Second) (count : ℕ) (second : List Decision
   pub room : (k : ℕ) → 0 < k → k ≤ count → k < length rows
 
 -- its tables hold the passages through these two journals, each of which has a number once; second fates are of sendings
-pub record StandsFor (p : Path) (first : List KeptFate) (second : List Decision) : Type 0 where
+pub record Represents (p : Path) (first : List KeptFate) (second : List Decision) : Type 0 where
   pub table : (n : ℕ) → in_tables p.firsts.rows.items p.seconds.rows.items n ≡ passage first second n
   pub firsts : IsFirstTable p.firsts first
   pub seconds : HasSeconds p.seconds.rows.items (length (sendings first)) second
@@ -26,14 +26,14 @@ pub record StandsFor (p : Path) (first : List KeptFate) (second : List Decision)
 pub record TakesFirst (p : Path) (n : ℕ) : Type 0 where
   pub first : List KeptFate
   pub second : List Decision
-  pub stands : StandsFor p first second
+  pub stands : Represents p first second
   pub new : occurs n (numbers_of first) ≡ 0
 
 -- the number of a second fate is that of a sending, and was not given before
 pub record TakesSecond (p : Path) (k : ℕ) : Type 0 where
   pub first : List KeptFate
   pub second : List Decision
-  pub stands : StandsFor p first second
+  pub stands : Represents p first second
   pub some : 0 < k
   pub sent : k ≤ length (sendings first)
   pub new : occurs k (numbers second) ≡ 0

@@ -32,7 +32,7 @@ impl Firsts {
     ghost use Rattle.play_loop.specs.declared.kept.KeptFate.{KeptFate};
     ghost use Rattle.play_chain.specs.Tables.{HoldsFirsts};
 
-    /// No fate. Takes no memory.
+    /// No fate. Does not allocate.
     pub fn new(alloc: Global) -> Firsts
         ensures table { IsFirstTable result [] }
         ensures holds { HoldsFirsts result [] }

@@ -10,5 +10,6 @@ ghost use Rattle.play_chain.specs.Path.{decisions_of, numbers_of};
 #[tactic(auto, using(crate::proofs::KeptLemmas::decisions_kept, crate::proofs::KeptLemmas::once_kept))]
 pub fn kept_journals_are_journals()
     ensures decisions { (arrived : List Captured) (js : List Decision) → decisions_of (kept_fates arrived js) ≡ js }
-    ensures once { (arrived : List Captured) (js : List Decision) → IsConserved (length arrived) js → (n : ℕ) → occurs n (numbers_of (kept_fates arrived js)) ≤ 1 }
+    ensures once { (arrived : List Captured) (js : List Decision) → IsConserved (length arrived) js → (n : ℕ)
+        → occurs n (numbers_of (kept_fates arrived js)) ≤ 1 }
 {}

@@ -20,13 +20,13 @@ impl Path {
     ghost use Rattle.altq_model.specs.History.{Decision};
     ghost use Rattle.play_loop.specs.declared.kept.KeptFate.{KeptFate};
     ghost use Rattle.play_chain.specs.Path.{sendings};
-    ghost use Rattle.play_chain.specs.Stands.{StandsFor, TakesFirst, TakesSecond, bound, of_sendings, rows_to, text_of};
+    ghost use Rattle.play_chain.specs.Stands.{Represents, TakesFirst, TakesSecond, bound, of_sendings, rows_to, text_of};
     ghost use Rattle.play_chain.specs.Tables.{AreOnce, IsFirstTable, IsSecondTable, text_in};
     ghost use Rattle.play_chain.specs.Text.{path_text};
 
-    /// No packet. Takes no memory.
+    /// No packet. Does not allocate.
     pub fn new(alloc: Global) -> Path
-        ensures { StandsFor result [] [] }
+        ensures { Represents result [] [] }
     {
         Path {
             alloc,
@@ -39,7 +39,7 @@ impl Path {
     /// only error is lack of memory; takes at most 16 bytes for each sending, and none where each has a second fate.
     pub fn through(alloc: Global, firsts: Firsts, seconds: Seconds) -> Result<Path, NoMemory>
         ensures stands { IfOk result (λ path. (first : List KeptFate) (second : List Decision) → AreOnce first → IsFirstTable firsts first
-            → IsSecondTable seconds second → StandsFor path first (of_sendings (length (sendings first)) second)) }
+            → IsSecondTable seconds second → Represents path first (of_sendings (length (sendings first)) second)) }
         ensures text { IfOk result (λ path. text_of path ≡ text_in firsts seconds) }
     {
         let mut path = Path {
@@ -56,9 +56,10 @@ impl Path {
     /// greatest.
     pub fn first(&mut self, number: u64, at: u64, fate: &Fate) -> Result<(), NoMemory>
         requires { TakesFirst self.old number }
-        ensures given { OnOk result ((first : List KeptFate) (second : List Decision) → StandsFor self.old first second
-            → StandsFor self.new (first ++ record { number = number; arrival = at; fate = fate.now } ∷ []) second) }
-        ensures refused { OnErr result ((first : List KeptFate) (second : List Decision) → StandsFor self.old first second → StandsFor self.new first second) }
+        ensures given { OnOk result ((first : List KeptFate) (second : List Decision) → Represents self.old first second
+            → Represents self.new (first ++ record { number = number; arrival = at; fate = fate.now } ∷ []) second) }
+        ensures refused { OnErr result ((first : List KeptFate) (second : List Decision) → Represents self.old first second
+            → Represents self.new first second) }
     {
         let place = self.firsts.next_place()?;
         make_room(&mut self.seconds.rows, place)?;
@@ -66,19 +67,19 @@ impl Path {
         self.firsts.add(number, at, fate)
     }
 
-    /// How many packets the first play sent, of those whose fates were given. Takes no memory.
+    /// How many packets the first play sent, of those whose fates were given. Does not allocate.
     pub fn sendings(&self) -> u64
-        ensures { (first : List KeptFate) (second : List Decision) → StandsFor self.now first second → result ≡ length (sendings first) }
+        ensures { (first : List KeptFate) (second : List Decision) → Represents self.now first second → result ≡ length (sendings first) }
     {
         self.firsts.sent
     }
 
     /// The next fate of the second play: the number of its packet there, from 1 to the count of sendings that were given, and not given
-    /// before. Takes no memory, in constant time.
+    /// before. Does not allocate, in constant time.
     pub fn second(&mut self, number: u64, fate: &Fate)
         requires { TakesSecond self.old number }
-        ensures { (first : List KeptFate) (second : List Decision) → StandsFor self.old first second
-            → StandsFor self.new first (second ++ (number, fate.now) ∷ []) }
+        ensures { (first : List KeptFate) (second : List Decision) → Represents self.old first second
+            → Represents self.new first (second ++ (number, fate.now) ∷ []) }
     {
         set_row(&mut self.seconds.rows, number, row_of(fate));
     }
@@ -88,7 +89,7 @@ impl Path {
     /// where the second fate is not known. The only error is lack of memory. Costs the length of the text, and a step for each number
     /// up to the greatest.
     pub fn text(&self) -> Result<Vec<u8>, NoMemory>
-        ensures paths { IfOk result (λ text. (first : List KeptFate) (second : List Decision) → StandsFor self.now first second
+        ensures paths { IfOk result (λ text. (first : List KeptFate) (second : List Decision) → Represents self.now first second
             → text.items ≡ path_text first second) }
         ensures tables { IfOk result (λ text. text.items ≡ text_of self.now) }
     {
@@ -96,7 +97,7 @@ impl Path {
         Ok(text)
     }
 
-    /// No number that has a row is as great as this. Takes no memory.
+    /// No number that has a row is as great as this. Does not allocate.
     pub fn bound(&self) -> usize
         ensures { result ≡ bound self.now }
     {

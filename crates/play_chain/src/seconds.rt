@@ -30,7 +30,7 @@ pub struct Seconds {
 impl Seconds {
     ghost use Rattle.play_chain.specs.Tables.{HoldsSeconds};
 
-    /// No fate. Takes no memory.
+    /// No fate. Does not allocate.
     pub fn new(alloc: Global) -> Seconds
         ensures table { IsSecondTable result [] }
         ensures holds { HoldsSeconds result [] }

@@ -13,7 +13,7 @@ use Rattle.play_words.specs.declared.words.MakeWords.{MakeWords}
 use Rattle.play_words.specs.declared.words.PlayWords.{PlayWords}
 use Rattle.play_words.specs.declared.words.VerifyWords.{VerifyWords}
 use Rattle.play_words.specs.Options.{make_app, takes_options}
-use Rattle.play_words.specs.Words.{AreDistinct, IsMake, Named, Words, are_distinct_in, are_distinct_names, count_in, count_of, differ, differ_from, make_refusal, most_packets, option_of, refusal, refusal_by, rows_read, seed_in, seed_of}
+use Rattle.play_words.specs.Words.{AreDistinct, IsMake, Named, Arguments, are_distinct_in, are_distinct_names, count_in, count_of, differ, differ_from, make_refusal, most_packets, option_of, refusal, refusal_by, rows_read, seed_in, seed_of}
 use Rattle.command_base.specs.Names.{Names, names_of, names_read}
 use Rattle.command_base.specs.Telling.{Ends}
 use Rattle.command_base.specs.declared.status.Status.{Status}
@@ -42,26 +42,26 @@ names_same x y c i a d f s =
     ∙ ap {B = Names} (λ (v : List ℕ). record { config = y.config; interface = y.interface; arrivals = y.arrivals; departures = y.departures; fates = y.fates; stats = v }) s
 
 -- the names that were read are those of the words
-names_known : (words : Words) (w : PlayWords) → ReadsNames (rows_read words) w → names_read w ≡ names_of words
+names_known : (words : Arguments) (w : PlayWords) → ReadsNames (rows_read words) w → names_read w ≡ names_of words
 names_known words w r = names_same (names_read w) (names_of words) r.config r.interface r.arrivals r.departures r.fates r.stats
 
 -- the command is a play
-pub play_read : (words : Words) (command : Command) (w : PlayWords) → command ≡ asks.Play w → Reads words command → ReadsPlay words w
+pub play_read : (words : Arguments) (command : Command) (w : PlayWords) → command ≡ asks.Play w → Reads words command → ReadsPlay words w
 play_read words command w e r = let P : Command → Type 0 = λ c. Reads words c in subst P e r
 
-pub check_read : (words : Words) (command : Command) (w : CheckWords) → command ≡ asks.Check w → Reads words command → ReadsCheck words w
+pub check_read : (words : Arguments) (command : Command) (w : CheckWords) → command ≡ asks.Check w → Reads words command → ReadsCheck words w
 check_read words command w e r = let P : Command → Type 0 = λ c. Reads words c in subst P e r
 
-pub make_read : (words : Words) (command : Command) (w : MakeWords) → command ≡ asks.Make w → Reads words command → ReadsMake words w
+pub make_read : (words : Arguments) (command : Command) (w : MakeWords) → command ≡ asks.Make w → Reads words command → ReadsMake words w
 make_read words command w e r = let P : Command → Type 0 = λ c. Reads words c in subst P e r
 
-pub shares_read : (words : Words) (command : Command) (w : PlayWords) → command ≡ asks.Shares w → Reads words command → ReadsShares words w
+pub shares_read : (words : Arguments) (command : Command) (w : PlayWords) → command ≡ asks.Shares w → Reads words command → ReadsShares words w
 shares_read words command w e r = let P : Command → Type 0 = λ c. Reads words c in subst P e r
 
-pub chain_read : (words : Words) (command : Command) (w : ChainWords) → command ≡ asks.Chain w → Reads words command → ReadsChain words w
+pub chain_read : (words : Arguments) (command : Command) (w : ChainWords) → command ≡ asks.Chain w → Reads words command → ReadsChain words w
 chain_read words command w e r = let P : Command → Type 0 = λ c. Reads words c in subst P e r
 
-pub verify_read : (words : Words) (command : Command) (w : VerifyWords) → command ≡ asks.Verify w → Reads words command → ReadsVerify words w
+pub verify_read : (words : Arguments) (command : Command) (w : VerifyWords) → command ≡ asks.Verify w → Reads words command → ReadsVerify words w
 verify_read words command w e r = let P : Command → Type 0 = λ c. Reads words c in subst P e r
 
 inputs_same : (x y : Inputs) → x.config ≡ y.config → x.interface ≡ y.interface → x.arrivals ≡ y.arrivals → x.departures ≡ y.departures
@@ -74,7 +74,7 @@ inputs_same x y c i a d f =
     ∙ ap {B = Inputs} (λ (v : List ℕ). record { config = y.config; interface = y.interface; arrivals = y.arrivals; departures = y.departures; fates = v }) f
 
 -- a play of the words as they stand
-pub play_of : (u v : View) (words : Words) (w : PlayWords) (s : Status) → ReadsPlay words w → Ends (PlayEnds u v (names_read w) w.seed) u v s
+pub play_of : (u v : View) (words : Arguments) (w : PlayWords) (s : Status) → ReadsPlay words w → Ends (PlayEnds u v (names_read w) w.seed) u v s
     → (seed : ℕ) → seed_of words ≡ Some seed → Ends (PlayEnds u v (names_of words) seed) u v s
 play_of u v words w s r x seed is =
     let P : Names → Type 0 = λ n. Ends (PlayEnds u v n w.seed) u v s in
@@ -83,7 +83,7 @@ play_of u v words w s r x seed is =
     (subst P (names_known words w r.read.names) x)
 
 -- and one whose shares are measured
-pub shares_of : (u v : View) (words : Words) (w : PlayWords) (s : Status) → ReadsShares words w → Ends (SharesEnds u v (names_read w) w.seed) u v s
+pub shares_of : (u v : View) (words : Arguments) (w : PlayWords) (s : Status) → ReadsShares words w → Ends (SharesEnds u v (names_read w) w.seed) u v s
     → (seed : ℕ) → seed_of words ≡ Some seed → Ends (SharesEnds u v (names_of words) seed) u v s
 shares_of u v words w s r x seed is =
     let P : Names → Type 0 = λ n. Ends (SharesEnds u v n w.seed) u v s in
@@ -102,11 +102,11 @@ links_same x y n j d f s p =
     ∙ ap {B = Links} (λ (v : List ℕ). record { first = y.first; next = y.next; departures = y.departures; fates = y.fates; stats = v; path = x.path }) s
     ∙ ap {B = Links} (λ (v : List ℕ). record { first = y.first; next = y.next; departures = y.departures; fates = y.fates; stats = y.stats; path = v }) p
 
-links_known : (words : Words) (w : ChainWords) → ReadsChain words w → links_read w ≡ links_of words
+links_known : (words : Arguments) (w : ChainWords) → ReadsChain words w → links_read w ≡ links_of words
 links_known words w r =
     links_same (links_read w) (links_of words) (names_known words w.play r.read.names) r.read.next r.read.departures2 r.read.fates2 r.read.stats2 r.read.path
 
-pub chain_of : (u v : View) (words : Words) (w : ChainWords) (s : Status) → ReadsChain words w → Ends (ChainEnds u v (links_read w) w.play.seed) u v s
+pub chain_of : (u v : View) (words : Arguments) (w : ChainWords) (s : Status) → ReadsChain words w → Ends (ChainEnds u v (links_read w) w.play.seed) u v s
     → (seed : ℕ) → seed_of words ≡ Some seed → Ends (ChainEnds u v (links_of words) seed) u v s
 chain_of u v words w s r x seed is =
     let P : Links → Type 0 = λ n. Ends (ChainEnds u v n w.play.seed) u v s in
@@ -114,14 +114,14 @@ chain_of u v words w s r x seed is =
     subst Q (same_number (seed_of words) w.play.seed seed r.read.names.seed is)
     (subst P (links_known words w r) x)
 
-pub check_of : (u v : View) (words : Words) (w : CheckWords) (s : Status) → ReadsCheck words w
+pub check_of : (u v : View) (words : Arguments) (w : CheckWords) (s : Status) → ReadsCheck words w
     → Ends (CheckEnds u v w.config.now w.interface.now) u v s → Ends (CheckEnds u v (names_of words).config (names_of words).interface) u v s
 check_of u v words w s r x =
     let P : List ℕ → Type 0 = λ c. Ends (CheckEnds u v c w.interface.now) u v s in
     let Q : List ℕ → Type 0 = λ i. Ends (CheckEnds u v (names_of words).config i) u v s in
     subst Q r.interface (subst P r.config x)
 
-pub make_of : (u v : View) (words : Words) (w : MakeWords) (s : Status) → ReadsMake words w
+pub make_of : (u v : View) (words : Arguments) (w : MakeWords) (s : Status) → ReadsMake words w
     → Ends (MakeEnds u v (names_read w.play) w.play.seed w.count) u v s → (seed count : ℕ) → seed_of words ≡ Some seed → count_of words ≡ Some count
     → Ends (MakeEnds u v (names_of words) seed count) u v s
 make_of u v words w s r x seed count is counted =
@@ -132,7 +132,7 @@ make_of u v words w s r x seed count is counted =
     (subst Q (same_number (seed_of words) w.play.seed seed r.read.names.seed is)
     (subst P (names_known words w.play r.read.names) x))
 
-pub verify_of : (u v : View) (words : Words) (w : VerifyWords) (s : Status) → ReadsVerify words w → Ends (VerifyEnds u v (inputs_of w)) u v s
+pub verify_of : (u v : View) (words : Arguments) (w : VerifyWords) (s : Status) → ReadsVerify words w → Ends (VerifyEnds u v (inputs_of w)) u v s
     → Ends (VerifyEnds u v (inputs_named words)) u v s
 verify_of u v words w s r x =
     let P : Inputs → Type 0 = λ n. Ends (VerifyEnds u v n) u v s in
@@ -154,7 +154,7 @@ within : (o : Option ℕ) (k : ℕ) → count_in o ≡ Some k → k ≤ most_pac
 within None k e = absurd (none_count k e)
 within (Some m) k e = by_bounds (nat_le 1 m) (nat_le m most_packets) m k refl e
 
-pub count_within : (words : Words) (w : MakeWords) → ReadsMake words w → w.count ≤ most_packets
+pub count_within : (words : Arguments) (w : MakeWords) → ReadsMake words w → w.count ≤ most_packets
 count_within words w r = within (number 10 (option_of (codes "count") words)) w.count r.count
 
 some_none : (k : ℕ) → Some k ≡ None → ⊥
@@ -222,7 +222,7 @@ is_true false h = absurd (no h)
     no : true ≡ false → ⊥
     no e = cc
 
-pub make_distinct : (words : Words) → refusal words ≡ None → IsMake words
+pub make_distinct : (words : Arguments) → refusal words ≡ None → IsMake words
     → AreDistinct (names_of words).config (names_of words).arrivals (names_of words).departures (names_of words).fates (names_of words).stats
 make_distinct words r command =
     let P : Named → Type 0 = λ x. refusal_by x words ≡ None in
@@ -235,7 +235,7 @@ make_distinct words r command =
     (is_true (are_distinct_in (rows_read words)) names.0)
 
 -- a marking of the words as they stand
-pub condition_read : (words : Words) (command : Command) (w : ConditionWords) → command ≡ asks.Condition w → Reads words command → ReadsCondition words w
+pub condition_read : (words : Arguments) (command : Command) (w : ConditionWords) → command ≡ asks.Condition w → Reads words command → ReadsCondition words w
 condition_read words command w e r = let P : Command → Type 0 = λ c. Reads words c in subst P e r
 
 marks_same : (x y : MarkNames) → x.config ≡ y.config → x.interface ≡ y.interface → x.arrivals ≡ y.arrivals → x.marked ≡ y.marked → x ≡ y
@@ -245,7 +245,7 @@ marks_same x y c i a m =
     ∙ ap {B = MarkNames} (λ (v : List ℕ). record { config = y.config; interface = y.interface; arrivals = v; marked = x.marked }) a
     ∙ ap {B = MarkNames} (λ (v : List ℕ). record { config = y.config; interface = y.interface; arrivals = y.arrivals; marked = v }) m
 
-pub condition_of : (u v : View) (words : Words) (w : ConditionWords) (s : Status) → ReadsCondition words w → Ends (ConditionEnds u v (mark_names_of w)) u v s
+pub condition_of : (u v : View) (words : Arguments) (w : ConditionWords) (s : Status) → ReadsCondition words w → Ends (ConditionEnds u v (mark_names_of w)) u v s
     → Ends (ConditionEnds u v (mark_names words)) u v s
 condition_of u v words w s r x =
     let P : MarkNames → Type 0 = λ n. Ends (ConditionEnds u v n) u v s in

@@ -2,7 +2,7 @@
 use Rattle.std.specs.Prelude.{◌≡◌, ◌≢◌, ◌⊎◌, ℕ, List, Ok, Err}
 use Rattle.play_base.specs.View.{View, IsAbsent, Rose, SameCounts}
 use Rattle.play_words.specs.Kinds.{words_kind}
-use Rattle.play_words.specs.Words.{Words, arrivals_name, config_name, departures_name, fates_name, interface_name}
+use Rattle.play_words.specs.Words.{Arguments, arrivals_name, config_name, departures_name, fates_name, interface_name}
 use Rattle.command_base.specs.Outcome.{Outcome}
 use Rattle.command_base.specs.Telling.{OnlySays}
 use Rattle.command_base.specs.declared.failure.Failure.{Failure}
@@ -39,7 +39,7 @@ pub record TellsTruly (old new : View) (s : Status) : Type 0 where
   pub write : s.code ≡ 6 → MeetsWriteFault old new
 
 -- the names of the files that the words give to be verified, and the interface
-abbrev pub inputs_named : Words → Inputs
+abbrev pub inputs_named : Arguments → Inputs
 inputs_named words = record {
   config = config_name words;
   interface = interface_name words;
@@ -49,7 +49,7 @@ inputs_named words = record {
 }
 
 -- the names of the files of a marking, and the interface
-abbrev pub mark_names : Words → MarkNames
+abbrev pub mark_names : Arguments → MarkNames
 mark_names words = record {
   config = config_name words;
   interface = interface_name words;

@@ -2,7 +2,7 @@
 use Rattle.std.proofs.Common.{◌≡◌, ◌≤◌, ◌+◌, ◌∙◌, ◌⊎◌, ℕ, List, [], length, Ok, Err, None, Some, ap, sym, subst, inl, inr, arith}
 use Rattle.std.specs.Prelude.{IsTrue}
 use Rattle.conf_tree.specs.declared.interface.Interface.{Interface}
-use Rattle.play_base.specs.View.{View, Any, Keeps, SameCounts}
+use Rattle.play_base.specs.View.{View, Everything, Keeps, SameCounts}
 use Rattle.play_base.proofs.ViewLaws.{keeps_fewer, same_trans}
 use Rattle.play_words.specs.Words.{AreDistinct}
 use Rattle.command_base.specs.Configuration.{Accepts, most_bytes}
@@ -32,7 +32,7 @@ pub record Reading (u a c : View) (n : Names) : Type 0 where
   pub high : (f p : ℕ) → a.part f ≡ None → c.part f ≡ Some p → 2 ≤ p
   pub distinct : AreDistinct n.config n.arrivals n.departures n.fates n.stats
 
-pub reading_of : (u a c : View) (n : Names) (seed : ℕ) {o : Outcome} → Keeps Any Any u a → OnlyReads u a n.config → a.said ≡ u.said
+pub reading_of : (u a c : View) (n : Names) (seed : ℕ) {o : Outcome} → Keeps Everything Everything u a → OnlyReads u a n.config → a.said ≡ u.said
     → AreDistinct n.config n.arrivals n.departures n.fates n.stats → PlayEnds a c n seed o → ((f p : ℕ) → a.part f ≡ None → c.part f ≡ Some p → 2 ≤ p)
     → Reading u a c n
 reading_of u a c n seed keeps only silent distinct x high = record {
@@ -43,7 +43,7 @@ reading_of u a c n seed keeps only silent distinct x high = record {
   distinct = distinct;
 }
 
-pub accepts_since : (u a : View) (config interface : List ℕ) (i : Interface) → Keeps Any Any u a → Accepts u config interface i → Accepts a config interface i
+pub accepts_since : (u a : View) (config interface : List ℕ) (i : Interface) → Keeps Everything Everything u a → Accepts u config interface i → Accepts a config interface i
 accepts_since u a config interface i k x = λ t. configures_by u a config interface i (k.bytes config tt) (x (sym k.tells ∙ t))
 
 -- a file that came to be was the configuration's, or is the play's
@@ -215,7 +215,7 @@ leaves_read u a n seed s =
           stats_kept = λ x. s.keeps.bytes n.stats tt;
         };
         few = λ t f fresh e text at. s.only.few t f 1 fresh e text at;
-        others = keeps_fewer Any N Any F u a (λ m h. tt) (λ g h. tt) s.keeps;
+        others = keeps_fewer Everything N Everything F u a (λ m h. tt) (λ g h. tt) s.keeps;
       };
     }
 

@@ -1,6 +1,6 @@
 -- Which ends of a play exclude one another.
 use Rattle.std.proofs.Common.{◌≡◌, ◌<◌, ◌⊎◌, ℕ, List, sym, subst, inl, inr, arith}
-use Rattle.altq_model.specs.History.{Happened}
+use Rattle.altq_model.specs.History.{LabelledEvent}
 use Rattle.altq_model.specs.Arrivals.{bare_arrivals}
 use Rattle.capture_model.specs.declared.damage.Damage.{Damage}
 use Rattle.capture_model.specs.Capture.{Record, Step, End, Fault, Limit, Reads, IsLast}
@@ -44,7 +44,7 @@ one_reads u n x y xs ys p q hp hq r s =
     (same.0, same.1)
 
 -- and is played one way
-pub one_cut : (u : View) (n : Names) (seed : ℕ) (x y : Accepted u n) (xs ys : List Record) (p q : Step) (g : List Happened) → xs ≡ ys → p ≡ q
+pub one_cut : (u : View) (n : Names) (seed : ℕ) (x y : Accepted u n) (xs ys : List Record) (p q : Step) (g : List LabelledEvent) → xs ≡ ys → p ≡ q
     → IsCutEarly (setup_of x.interface seed) xs p g → IsCutEarly (setup_of y.interface seed) ys q g
 one_cut u n seed x y xs ys p q g rs ls c =
     let A : Interface → Type 0 = λ i. IsCutEarly (setup_of i seed) xs p g in

@@ -2,9 +2,9 @@
 use Rattle.std.proofs.Common.{◌≡◌, ◌∙◌, ℕ, List, Ok, Err, Some, arith, sym}
 use Rattle.std.specs.Prelude.{IsTrue, OnOk}
 use Rattle.std.specs.declared.result.Result.{Result}
-use Rattle.altq_model.specs.History.{Happened}
+use Rattle.altq_model.specs.History.{LabelledEvent}
 use Rattle.conf_tree.specs.declared.interface.Interface.{Interface}
-use Rattle.play_base.specs.View.{View, IsAbsent, SameCounts, Any, Keeps}
+use Rattle.play_base.specs.View.{View, IsAbsent, SameCounts, Everything, Keeps}
 use Rattle.play_core.specs.declared.totals.Totals.{Totals}
 use Rattle.play_loop.specs.declared.fault.PlayFault.{PlayFault}
 use Rattle.play_loop.specs.declared.fault.PlayFault.TheVariants.{NoMemory}
@@ -39,7 +39,7 @@ opened_behind a g n i x accepted opened follows counts = record { accepted = acc
 -- its arrivals cannot be read
 pub found_unread : (a b : View) (n : Names) (i : Interface) (seed : ℕ) (f : Unplayed) → HaveLaws → Accepts a n.config n.interface i
     → AreDistinct n.config n.arrivals n.departures n.fates n.stats → ArrivalsCauses a b n.arrivals f → OpenedFar a b n.departures n.fates n.stats
-    → AreNamed a b n 6 → Keeps Any Any a b → PlayEnds a b n seed (Err (unplayed_failure f))
+    → AreNamed a b n 6 → Keeps Everything Everything a b → PlayEnds a b n seed (Err (unplayed_failure f))
 found_unread a b n i seed f laws accepted d why far named keeps =
     let course = course_opened a b n d far named in
     let fails = fails_arrivals a b n i seed f accepted why in
@@ -59,10 +59,10 @@ pub found_unbuilt : (a : View) (n : Names) (i : Interface) (seed : ℕ) → Have
     → AreDistinct n.config n.arrivals n.departures n.fates n.stats → PlayEnds a a n seed (Err (unplayed_failure (Play NoMemory)))
 found_unbuilt a n i seed laws accepted d =
     found_unread a a n i seed (Play NoMemory) laws accepted d tt (far_none a n.departures n.fates n.stats)
-    (named_within a a n 2 6 (omega arith) (named_none a n)) (keeps_refl Any Any a)
+    (named_within a a n 2 6 (omega arith) (named_none a n)) (keeps_refl Everything Everything a)
 
 -- so it ended
-pub unread_ended : (a b : View) (n : Names) (i : Interface) (seed : ℕ) (f : PlayFault) (stands : List Happened → Type 0) (kept : List KeptFate → Type 0)
+pub unread_ended : (a b : View) (n : Names) (i : Interface) (seed : ℕ) (f : PlayFault) (stands : List LabelledEvent → Type 0) (kept : List KeptFate → Type 0)
     → PlayEnds a b n seed (Err (play_failure f)) → OpenedFar a b n.departures n.fates n.stats → HasEnded stands kept a b n seed i (Err f)
 unread_ended a b n i seed f stands kept ends far = record { done = tt; ends = ends; told = tt; silent = far.said; high = far.not_config }
 
@@ -70,7 +70,7 @@ there_opened : (a g : View) (arrivals : List ℕ) (file : ℕ) {A : Type 0} → 
 there_opened a g arrivals file x y = let z = some_bytes (a.bytes arrivals) (x.there y.0) in absurd (no_bytes z.0 (sym y.1 ∙ z.1))
 
 -- its outputs are not all there
-pub found_uncreated : (a g b : View) (n : Names) (i : Interface) (x : Arrivals) (seed : ℕ) (f : PlayFault) (stands : List Happened → Type 0)
+pub found_uncreated : (a g b : View) (n : Names) (i : Interface) (x : Arrivals) (seed : ℕ) (f : PlayFault) (stands : List LabelledEvent → Type 0)
     (kept : List KeptFate → Type 0) → HaveLaws → IsBehind a g n i x → AreDistinct n.config n.arrivals n.departures n.fates n.stats → OutputCauses g b f
     → LeavesOutStats a b f → OpenedFar a b n.departures n.fates n.stats → AreNamed a b n 6 → HasEnded stands kept a b n seed i (Err f)
 found_uncreated a g b n i x seed f stands kept laws behind d why none far named =
@@ -94,7 +94,7 @@ found_uncreated a g b n i x seed f stands kept laws behind d why none far named 
     }
 
 -- it was played, or it was but for a fault
-pub found_ended : (r : Run) (stands : List Happened → Type 0) (kept : List KeptFate → Type 0) (o : Result Totals PlayFault) → Steps r
+pub found_ended : (r : Run) (stands : List LabelledEvent → Type 0) (kept : List KeptFate → Type 0) (o : Result Totals PlayFault) → Steps r
     → IsBehind r.before r.taken r.names r.interface r.arrivals → SameCounts r.taken r.created → OnOk o (SameCounts r.created r.after) → CameIn r stands kept o
     → HasEnded stands kept r.before r.after r.names r.seed r.interface o
 found_ended r stands kept (Ok totals) s behind created counts came =

@@ -3,7 +3,7 @@ use Rattle.std.proofs.Common.{◌≡◌, ◌≤◌, ◌∙◌, ◌⊎◌, ℕ, L
 use Rattle.std.proofs.lemmas.List.{append-nil}
 use Rattle.std.specs.Prelude.{IsTrue}
 use Rattle.capture_model.specs.Capture.{Record, Step, End, Reads}
-use Rattle.altq_model.specs.History.{Happened}
+use Rattle.altq_model.specs.History.{LabelledEvent}
 use Rattle.conf_tree.specs.declared.interface.Interface.{Interface}
 use Rattle.interface_marks.specs.Conditioners.{marked_in}
 use Rattle.pcap_files.proofs.ReadingLaws.{one_reading}
@@ -87,7 +87,7 @@ unfolding played_by
 played_totals u v c n seed s h = refl
 
 -- what holds of its interface and its history holds then
-pub played_lines : (u v c : View) (n : Names) (seed : ℕ) (s : SameInput u v n) (h : HasPlayed u c n seed) (P : Interface → List Happened → Type 0)
+pub played_lines : (u v c : View) (n : Names) (seed : ℕ) (s : SameInput u v n) (h : HasPlayed u c n seed) (P : Interface → List LabelledEvent → Type 0)
     → P h.accepted.interface h.played.history → P (played_by u v c n seed s h).accepted.interface (played_by u v c n seed s h).played.history
 unfolding played_by accepted_by
 played_lines u v c n seed s h P x = x

@@ -2,7 +2,7 @@
 use Rattle.std.proofs.Common.{◌≡◌, ℕ, max, length, List, [], ◌∷◌, true, arith}
 use Rattle.altq_model.specs.declared.Placed.{Placed}
 use Rattle.altq_model.specs.Arrivals.{arrivals_from, arrivals_of, bare_arrivals}
-use Rattle.altq_model.specs.History.{Happened}
+use Rattle.altq_model.specs.History.{LabelledEvent}
 use Rattle.altq_model.specs.Lawful.{IsLawful, IsOneOf}
 use Rattle.altq_model.specs.Play.{AreDue}
 use Rattle.capture_model.specs.Capture.{Record, Step, Reads}
@@ -58,7 +58,7 @@ sized_from place latest (r ∷ rs) h = (sized_one r h.0, sized_from place (max l
 
 -- so the first events of a play of a capture keep what the interface promises
 pub promises_kept : HaveLaws → (i : Interface) → IsConfigured i → (seed : ℕ) (bytes : List ℕ) (records : List Record) (last : Step) → Reads bytes records last
-    → (g : List Happened) → AreDue (policy_of i) i.rate seed (bare_arrivals (arrivals_of (place_in i) records)) g
+    → (g : List LabelledEvent) → AreDue (policy_of i) i.rate seed (bare_arrivals (arrivals_of (place_in i) records)) g
     → KeepsPromises i (bare_arrivals (arrivals_of (place_in i) records)) g
 promises_kept laws i x seed bytes records last r g due =
     laws.promises i (is_interface laws i x) seed (bare_arrivals (arrivals_of (place_in i) records)) g (arrivals_rise (place_in i) records)

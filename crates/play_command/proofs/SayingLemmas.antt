@@ -1,6 +1,6 @@
 -- What holds of a play before something is said holds of it after that.
 use Rattle.std.proofs.Common.{◌≡◌, ◌∙◌, ℕ, List, Some, sym, subst, inl, inr, Bool, true, false}
-use Rattle.altq_model.specs.History.{Happened}
+use Rattle.altq_model.specs.History.{LabelledEvent}
 use Rattle.capture_model.specs.Capture.{Record, Step}
 use Rattle.play_base.specs.View.{View}
 use Rattle.play_base.proofs.ViewLaws.{keeps_fewer, keeps_trans}
@@ -55,7 +55,7 @@ pub front_after : (u v w : View) (part : ℕ) (name text : List ℕ) → OnlySay
 front_after u v w part name text o (inl x) = inl (untouched_after u v w part o x.0, o.keeps.bytes name tt ∙ x.1)
 front_after u v w part name text o (inr x) = inr (x.0, x.1, o.keeps.bytes name tt ∙ x.2, x.3)
 
-texts_after : (v w : View) (n : Names) (x : Setup) (records : List Record) (g : List Happened) → OnlySays v w → HoldTexts v n x records g → HoldTexts w n x records g
+texts_after : (v w : View) (n : Names) (x : Setup) (records : List Record) (g : List LabelledEvent) → OnlySays v w → HoldTexts v n x records g → HoldTexts w n x records g
 texts_after v w n x records g o h = record {
   departures = o.keeps.bytes n.departures tt ∙ h.departures;
   fates = o.keeps.bytes n.fates tt ∙ h.fates;

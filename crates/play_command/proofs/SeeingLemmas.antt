@@ -3,7 +3,7 @@ use Rattle.std.proofs.Common.{◌≡◌, ◌≤◌, ◌<◌, ◌+◌, ◌++◌, 
 use Rattle.std.specs.Prelude.{IsSome, IsTrue}
 use Rattle.std.specs.declared.option.Option.{Option}
 use Rattle.std.specs.declared.result.Result.{Result}
-use Rattle.altq_model.specs.History.{Happened}
+use Rattle.altq_model.specs.History.{LabelledEvent}
 use Rattle.altq_model.specs.Lawful.{greatest}
 use Rattle.arrivals_front.specs.Given.{Follows, is_pcapng}
 use Rattle.capture_model.specs.Capture.{Record, Step, End, Fault, Limit, Reads, IsCapture, IsLast}
@@ -70,7 +70,7 @@ abbrev pub Sees : Run → ((given bytes : List ℕ) → Type 0) → Type 0
 Sees r P = IsTrue r.before.tells → (x : AcceptedOf r) × P x.given x.bytes
 
 -- what came of these bytes
-abbrev pub ToldOf : Setup → (List Happened → Type 0) → (List KeptFate → Type 0) → View → Opened → Totals → (bytes : List ℕ) → Type 0
+abbrev pub ToldOf : Setup → (List LabelledEvent → Type 0) → (List KeptFate → Type 0) → View → Opened → Totals → (bytes : List ℕ) → Type 0
 ToldOf x stands kept c o totals bytes = (records : List Record) × IsCapture bytes records × HasTold x stands kept c o records totals
 
 abbrev pub FrontsOf : Setup → View → Opened → (bytes : List ℕ) → Type 0
@@ -82,7 +82,7 @@ OffersOf x c o last bytes = (records : List Record) × Reads bytes records last 
 abbrev pub StatsOf : Setup → View → Opened → (bytes : List ℕ) → Type 0
 StatsOf x c o bytes = (records : List Record) × IsCapture bytes records × HasBegunStats x c o records
 
-abbrev pub ToldIn : Run → (List Happened → Type 0) → (List KeptFate → Type 0) → Totals → (given bytes : List ℕ) → Type 0
+abbrev pub ToldIn : Run → (List LabelledEvent → Type 0) → (List KeptFate → Type 0) → Totals → (given bytes : List ℕ) → Type 0
 ToldIn r stands kept totals given bytes = ToldOf (setup_in r) stands kept r.after r.opened totals bytes
 
 abbrev pub FrontsIn : Run → (given bytes : List ℕ) → Type 0
@@ -101,7 +101,7 @@ ShortIn r given bytes = (records : List Record) × AreTaken (is_pcapng given) (i
 pub record LateIn (r : Run) (given bytes : List ℕ) : Type 0 where
   pub records : List Record
   pub last : Step
-  pub history : List Happened
+  pub history : List LabelledEvent
   pub totals : Totals
   pub reads : Reads bytes records last
   pub is_last : IsLast last
@@ -136,7 +136,7 @@ StatsLeft r (play.Limit limit) = HoldsAt r.after r.opened.stats []
 StatsLeft r play.NoMemory = StatsBegun r
 
 -- what came of the play
-abbrev pub CameIn : Run → (List Happened → Type 0) → (List KeptFate → Type 0) → Result Totals PlayFault → Type 0
+abbrev pub CameIn : Run → (List LabelledEvent → Type 0) → (List KeptFate → Type 0) → Result Totals PlayFault → Type 0
 CameIn r stands kept (Ok totals) = Sees r (ToldIn r stands kept totals) × HasDecided (setup_in r) kept totals
 CameIn r stands kept (Err fault) = Explained r fault × Sees r (FrontsIn r) × StatsLeft r fault
 

@@ -4,7 +4,7 @@ use Rattle.std.specs.Prelude.{IfErr, IfOk, OnErr}
 use Rattle.std.specs.declared.result.Result.{Result}
 use Rattle.altq_model.specs.declared.Placed.{Placed}
 use Rattle.altq_model.specs.Departures.{Dressing}
-use Rattle.altq_model.specs.History.{Happened}
+use Rattle.altq_model.specs.History.{LabelledEvent}
 use Rattle.altq_model.specs.Play.{IsOneOf, Policy}
 use Rattle.capture_model.specs.Capture.{Record}
 use Rattle.conf_tree.specs.declared.interface.Interface.{Interface}
@@ -30,15 +30,15 @@ use Rattle.play_command.specs.Discipline.{CameOf}
 use Rattle.play_command.specs.InterfaceSetup.{Untold, setup_of}
 
 -- where nothing is told of what stands for a history
-untold : (g : List Happened) → IsStanding Untold g
+untold : (g : List LabelledEvent) → IsStanding Untold g
 untold g = (g, tt, refl)
 
-offered_untold : (x : Setup) (stood : List Happened → Type 0) (v : View) (o : Opened) (records : List Record) → HasOffered x stood v o records
+offered_untold : (x : Setup) (stood : List LabelledEvent → Type 0) (v : View) (o : Opened) (records : List Record) → HasOffered x stood v o records
     → HasOffered x Untold v o records
 offered_untold x stood v o records z =
     record { history = z.history; begun = z.begun; all = z.all; last = z.last; texts = z.texts; stands = untold z.history }
 
-explains_untold : (x : Setup) (stood : List Happened → Type 0) (u v : View) (o : Opened) (f : PlayFault) → Explains x stood u v o f → Explains x Untold u v o f
+explains_untold : (x : Setup) (stood : List LabelledEvent → Type 0) (u v : View) (o : Opened) (f : PlayFault) → Explains x stood u v o f → Explains x Untold u v o f
 explains_untold x stood u v o (play.Capture d) h = λ told bytes l. let y = h told bytes l in (y.0, y.1, offered_untold x stood v o y.0 y.2)
 explains_untold x stood u v o play.Read h = (h.0, λ told bytes l. let y = h.1 told bytes l in (y.0, y.1, offered_untold x stood v o y.0 y.2))
 explains_untold x stood u v o (play.Write output.Departures) h = h
@@ -100,7 +100,7 @@ named_of laws i names place x e f frame =
     subst N (sym e) (subst Q (sym f) (is_named laws i x frame))
 
 -- what the loop says of what was built came of the play of the interface
-pub came_built : (x y : Setup) (stands : List Happened → Type 0) (kept : List KeptFate → Type 0) (u v : View) (o : Opened) (r : Result Totals PlayFault) → x ≡ y
+pub came_built : (x y : Setup) (stands : List LabelledEvent → Type 0) (kept : List KeptFate → Type 0) (u v : View) (o : Opened) (r : Result Totals PlayFault) → x ≡ y
     → IfOk r (Tells x stands kept u v o) → IfOk r (HasDecided x kept) → IfErr r (Explains x stands u v o) → OnErr r (Fronts x u v o) → IfErr r (LeavesStats x u v o)
     → CameOf y stands kept o r u v
 came_built x y stands kept u v o (Ok totals) e told decided why front stats =

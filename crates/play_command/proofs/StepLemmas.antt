@@ -2,7 +2,7 @@
 use Rattle.std.proofs.Common.{◌≡◌, ◌≢◌, ◌≤◌, ◌<◌, ◌++◌, ◌∙◌, ◌⊎◌, ℕ, List, [], None, Some, ap, sym, refl, subst, inl, inr, arith}
 use Rattle.std.specs.Prelude.{IsSome, IsTrue}
 use Rattle.std.specs.declared.result.Result.{Result}
-use Rattle.altq_model.specs.History.{Happened}
+use Rattle.altq_model.specs.History.{LabelledEvent}
 use Rattle.capture_model.specs.Capture.{Record, Step, End, Fault, Limit, Reads, IsLast}
 use Rattle.conf_tree.specs.declared.interface.Interface.{Interface}
 use Rattle.pcap_files.proofs.ReadingLaws.{one_reading}
@@ -152,12 +152,12 @@ module _ (r : Run) (s : Steps r) where
   stats_held text t h =
       held_at r.opened r.created r.after r.opened.stats r.names.stats text s.played s.opened.ready.stats.there (s.opened.stats_name t) (told_created t) h
 
-  texts_of : (records : List Record) (g : List Happened) → IsTrue r.before.tells
+  texts_of : (records : List Record) (g : List LabelledEvent) → IsTrue r.before.tells
       → loop.HoldTexts r.after r.opened (setup_in r) (arrivals_in (setup_in r) records) g → HoldTexts r.after r.names (setup_in r) records g
   texts_of records g t h = record { departures = departures_held _ t h.departures; fates = fates_held _ t h.fates }
 
   -- what is played by a discipline is what it stands for, and what a keeper is told is its journal
-  module _ (stands : List Happened → Type 0) (kept : List KeptFate → Type 0) (totals : Totals) (p : Sees r (ToldIn r stands kept totals)) where
+  module _ (stands : List LabelledEvent → Type 0) (kept : List KeptFate → Type 0) (totals : Totals) (p : Sees r (ToldIn r stands kept totals)) where
     pub done_of : IsTrue r.before.tells → HasPlayed r.before r.after r.names r.seed
     done_of t =
         let x = (p t).1 in

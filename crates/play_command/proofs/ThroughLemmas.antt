@@ -3,7 +3,7 @@ use Rattle.std.proofs.Common.{◌≡◌, ◌+◌, ◌∙◌, ◌++◌, ℕ, Bool
 use Rattle.std.specs.Prelude.{IsTrue, if◌then◌else◌}
 use Rattle.std.specs.declared.option.Option.{Option}
 use Rattle.std.specs.declared.result.Result.{Result}
-use Rattle.altq_model.specs.History.{Happened}
+use Rattle.altq_model.specs.History.{LabelledEvent}
 use Rattle.arrivals_front.specs.Given.{Follows, is_pcapng}
 use Rattle.arrivals_front.specs.declared.given.Given.{Given}
 use Rattle.arrivals_front.proofs.GivenLemmas.{not_both}
@@ -59,10 +59,10 @@ module _ (c : View) (left : ℕ → Option (List ℕ)) (fixed : List ℕ) where
   holds_front file text x = record { written = x.written; rest = x.rest; holds = holds file x.written x.holds; split = x.split }
 
   module _ (x : Setup) (o : Opened) (records : List Record) where
-    texts : (g : List Happened) → HoldTexts Seen o x (arrivals_in x records) g → HoldTexts c o x (arrivals_in x records) g
+    texts : (g : List LabelledEvent) → HoldTexts Seen o x (arrivals_in x records) g → HoldTexts c o x (arrivals_in x records) g
     texts g h = record { departures = holds o.departures _ h.departures; fates = holds o.fates _ h.fates }
 
-    played : (stands : List Happened → Type 0) (t : Totals) → HasPlayed x stands Seen o records t → HasPlayed x stands c o records t
+    played : (stands : List LabelledEvent → Type 0) (t : Totals) → HasPlayed x stands Seen o records t → HasPlayed x stands c o records t
     played stands t h = record {
       history = h.history;
       play = h.play;
@@ -227,7 +227,7 @@ module _ (r : Run) (s : Begins r) (p : Passage r) where
       by (inl k) = inl (none_left k)
       by (inr k) = inr (are_begun k)
 
-  pub came : (stands : List Happened → Type 0) (kept : List KeptFate → Type 0) (o : Result Totals PlayFault)
+  pub came : (stands : List LabelledEvent → Type 0) (kept : List KeptFate → Type 0) (o : Result Totals PlayFault)
       → CameOf (setup_in r) stands kept r.opened o Old New → CameIn r stands kept o
   unfolding played
   came stands kept (Ok totals) h = (

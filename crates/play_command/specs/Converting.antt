@@ -28,7 +28,8 @@ pub record Through (P : View → View → Type 0) (old new : View) (file : ℕ) 
       → (mine : List ℕ) × (new.left file ≡ Some mine) × (length rest ≤ length mine + 262160)
 
 -- what came of a play so, and what stays as it was
-pub record ComesThrough (P : View → View → Type 0) (o : Opened) (r : Result Totals PlayFault) (old new : View) (shown : Option (List ℕ)) (streamed : Bool) : Type 0 where
+pub record ComesThrough (P : View → View → Type 0) (o : Opened) (r : Result Totals PlayFault) (old new : View) (shown : Option (List ℕ))
+    (streamed : Bool) : Type 0 where
   pub came : Through P old new o.arrivals shown streamed
   pub stays : Stays o r old new
 

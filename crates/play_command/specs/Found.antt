@@ -1,7 +1,7 @@
 -- What the play of an interface that was found leaves, with the counts of what was played.
 use Rattle.std.specs.Prelude.{◌≡◌, ◌≤◌, ℕ, List, None, Some, Ok, Err, IfErr, IfOk, IsTrue}
 use Rattle.std.specs.declared.result.Result.{Result}
-use Rattle.altq_model.specs.History.{Happened, journal}
+use Rattle.altq_model.specs.History.{LabelledEvent, journal}
 use Rattle.arrivals_front.specs.Given.{Follows}
 use Rattle.conf_tree.specs.declared.interface.Interface.{Interface}
 use Rattle.play_base.specs.View.{View, SameCounts}
@@ -39,7 +39,7 @@ pub record PlaysTo (old new : View) (n : Names) (seed : ℕ) (totals : Totals) :
   pub to : IsTrue old.tells → HasPlayedTo old new n seed totals
 
 -- what is played is what a discipline stands for
-abbrev pub HasStood : (List Happened → Type 0) → View → View → Names → (seed : ℕ) → Type 0
+abbrev pub HasStood : (List LabelledEvent → Type 0) → View → View → Names → (seed : ℕ) → Type 0
 HasStood stood old new n seed = (x : HasPlayed old new n seed) × IsStanding stood x.played.history
 
 -- the journal of what is played was told: each decision with its packet's arrival
@@ -53,12 +53,14 @@ pub record TellsOf (kept : List KeptFate → Type 0) (old new : View) (n : Names
   pub decided : HasDecided (setup_of i seed) kept totals
 
 -- and a discipline stands for the history
-pub record PlaysBy (stands : List Happened → Type 0) (kept : List KeptFate → Type 0) (old new : View) (n : Names) (seed : ℕ) (i : Interface) (totals : Totals) : Type 0 where
+pub record PlaysBy (stands : List LabelledEvent → Type 0) (kept : List KeptFate
+    → Type 0) (old new : View) (n : Names) (seed : ℕ) (i : Interface) (totals : Totals) : Type 0 where
   pub stood : IsTrue old.tells → HasStood stands old new n seed
   pub tells : TellsOf kept old new n seed i totals
 
 -- how it ended, from before its arrivals were opened: it is done, or why it is not; nothing was said, and no new file is the configuration's
-pub record HasEnded (stands : List Happened → Type 0) (kept : List KeptFate → Type 0) (old new : View) (n : Names) (seed : ℕ) (i : Interface) (r : Result Totals PlayFault) : Type 0 where
+pub record HasEnded (stands : List LabelledEvent → Type 0) (kept : List KeptFate
+    → Type 0) (old new : View) (n : Names) (seed : ℕ) (i : Interface) (r : Result Totals PlayFault) : Type 0 where
   pub done : IfOk r (PlaysTo old new n seed)
   pub ends : IfErr r (λ fault. PlayEnds old new n seed (Err (play_failure fault)))
   pub told : IfOk r (PlaysBy stands kept old new n seed i)

@@ -1,6 +1,6 @@
 -- What is played of an interface: its policy, where its frames are placed and how they are dressed, its names and its rate.
 use Rattle.std.specs.Prelude.{ℕ, List}
-use Rattle.altq_model.specs.History.{Happened}
+use Rattle.altq_model.specs.History.{LabelledEvent}
 use Rattle.conf_tree.specs.declared.interface.Interface.{Interface}
 use Rattle.frame_classes.specs.Frames.{dress_in, place_in}
 use Rattle.interface_policy.specs.Policy.{policy_of, queue_names}
@@ -17,5 +17,5 @@ setup_of i seed = record {
 }
 
 -- nothing is claimed of a history
-abbrev pub Untold : List Happened → Type 0
+abbrev pub Untold : List LabelledEvent → Type 0
 Untold g = Unit {0}

@@ -2,7 +2,7 @@
 use Rattle.std.specs.Prelude.{◌≡◌, ◌≤◌, ◌<◌, ◌+◌, ◌⊎◌, ℕ, List, [], ◌∷◌, ◌++◌, length, None, Some, IsTrue, Bool, true, false, if◌then◌else◌}
 use Rattle.altq_model.specs.Arrivals.{bare_arrivals}
 use Rattle.altq_model.specs.Departures.{departed}
-use Rattle.altq_model.specs.History.{Happened, bare, offered}
+use Rattle.altq_model.specs.History.{LabelledEvent, unlabelled, offered}
 use Rattle.altq_model.specs.Lawful.{greatest}
 use Rattle.altq_model.specs.Play.{IsPlay}
 use Rattle.capture_model.specs.declared.damage.Damage.{Damage}
@@ -54,7 +54,7 @@ pub record IsNoCapture (v : View) (n : Names) (fault : NgFault) : Type 0 where
   pub cause : IsCause fault given
 
 -- departures and fates hold exactly the texts of this history
-pub record HoldTexts (v : View) (n : Names) (x : Setup) (records : List Record) (g : List Happened) : Type 0 where
+pub record HoldTexts (v : View) (n : Names) (x : Setup) (records : List Record) (g : List LabelledEvent) : Type 0 where
   pub departures : v.bytes n.departures ≡ Some (departures_of x (arrivals_in x records) g)
   pub fates : v.bytes n.fates ≡ Some (fates_of x (arrivals_in x records) g)
 
@@ -62,7 +62,7 @@ pub record HoldTexts (v : View) (n : Names) (x : Setup) (records : List Record) 
 -- Departures are a capture of the packets that were sent, in the order of decision.
 pub record WasPlayed (v : View) (n : Names) (x : Setup) (bytes : List ℕ) : Type 0 where
   pub records : List Record
-  pub history : List Happened
+  pub history : List LabelledEvent
   pub totals : Totals
   pub capture : IsCapture bytes records
   pub play : IsFinished x.policy x.rate x.seed (arrivals_in x records) history totals
@@ -92,12 +92,12 @@ IsFrontAt old new part name text =
 abbrev pub HasStatsFront : View → View → Names → Setup → List Record → Type 0
 HasStatsFront old new n x records =
     IsFrontAt old new parts.statistics n.stats []
-    ⊎ ((g : List Happened) × IsPlay x.policy x.rate x.seed (bare_arrivals (arrivals_in x records)) g × HoldTexts new n x records g
+    ⊎ ((g : List LabelledEvent) × IsPlay x.policy x.rate x.seed (bare_arrivals (arrivals_in x records)) g × HoldTexts new n x records g
     × IsFrontAt old new parts.statistics n.stats (statistics_of x (arrivals_in x records) g))
 
 -- departures and fates hold fronts of the texts of the first events of the play of these records
 pub record HasFronts (old new : View) (n : Names) (x : Setup) (records : List Record) : Type 0 where
-  pub history : List Happened
+  pub history : List LabelledEvent
   pub begun : IsBegun x.policy x.rate x.seed (bare_arrivals (arrivals_in x records)) history
   pub departures : IsFrontAt old new parts.departures n.departures (departures_of x (arrivals_in x records) history)
   pub fates : IsFrontAt old new parts.fates n.fates (fates_of x (arrivals_in x records) history)
@@ -112,9 +112,9 @@ Fronts old new n seed = IsTrue old.tells → (a : Accepted old n) (records : Lis
 -- fates hold exactly their texts, and the statistics nothing. These are all drops of these records, and all sendings that start before
 -- the last of them arrives
 pub record HasOffered (v : View) (n : Names) (x : Setup) (records : List Record) : Type 0 where
-  pub history : List Happened
+  pub history : List LabelledEvent
   pub begun : IsBegun x.policy x.rate x.seed (bare_arrivals (arrivals_in x records)) history
-  pub all : offered (bare history) ≡ length records
+  pub all : offered (unlabelled history) ≡ length records
   pub last : EndsWithOffer history
   pub texts : HoldTexts v n x records history
   pub stats : v.bytes n.stats ≡ Some []
@@ -138,14 +138,14 @@ IsLimited old new n seed = IsOffered old new n seed Limit
 pub record HasWholeTexts (old new : View) (n : Names) (seed : ℕ) : Type 0 where
   pub accepted : Accepted old n
   pub records : List Record
-  pub history : List Happened
+  pub history : List LabelledEvent
   pub capture : IsCapture accepted.bytes records
   pub play : IsPlay (setup_of accepted.interface seed).policy accepted.interface.rate seed
       (bare_arrivals (arrivals_in (setup_of accepted.interface seed) records)) history
   pub texts : HoldTexts new n (setup_of accepted.interface seed) records history
 
 -- a sending that is due next would end too late. It starts before the last of these records arrives, or these are a whole capture
-pub record IsCutEarly (x : Setup) (records : List Record) (last : Step) (g : List Happened) : Type 0 where
+pub record IsCutEarly (x : Setup) (records : List Record) (last : Step) (g : List LabelledEvent) : Type 0 where
   pub cut : IsCutOff x.policy x.rate x.seed (bare_arrivals (arrivals_in x records)) g
   pub before : (last ≡ End) ⊎ (start_of cut.next.what < greatest 0 records)
 
@@ -172,7 +172,7 @@ pub record IsLate (old new : View) (n : Names) (seed : ℕ) : Type 0 where
   pub accepted : Accepted old n
   pub records : List Record
   pub last : Step
-  pub history : List Happened
+  pub history : List LabelledEvent
   pub totals : Totals
   pub reads : Reads accepted.bytes records last
   pub is_last : IsLast last
@@ -225,7 +225,7 @@ pub record EndsWith (old : View) (n : Names) (seed : ℕ) (last : Step) : Type 0
   pub accepted : Accepted old n
   pub records : List Record
   pub reads : Reads accepted.bytes records last
-  pub in_time : (history : List Happened) → IsCutEarly (setup_of accepted.interface seed) records last history → ⊥
+  pub in_time : (history : List LabelledEvent) → IsCutEarly (setup_of accepted.interface seed) records last history → ⊥
 
 -- the configuration is accepted, the arrivals are a capture, and every packet of its play ends in time
 abbrev pub IsPlayable : View → Names → (seed : ℕ) → Type 0
@@ -236,7 +236,7 @@ pub record EndsLate (old : View) (n : Names) (seed : ℕ) : Type 0 where
   pub accepted : Accepted old n
   pub records : List Record
   pub last : Step
-  pub history : List Happened
+  pub history : List LabelledEvent
   pub reads : Reads accepted.bytes records last
   pub is_last : IsLast last
   pub early : IsCutEarly (setup_of accepted.interface seed) records last history

@@ -50,14 +50,14 @@ fn itself_by<D: Discipline, K: Keeper, F: Files>(
     discipline: &mut D,
     keeper: &mut K,
 ) -> Result<Totals, PlayFault>
-    requires new { AreNew (D.stands discipline.old) (D.policy discipline.old) (D.link_rate discipline.old) (K.told keeper.old) found.now }
+    requires new { AreNew (D.view discipline.old).represents (D.view discipline.old).policy (D.view discipline.old).link_rate (K.told keeper.old) found.now }
     requires distinct { AreDistinct words.now.config.now words.now.arrivals.now words.now.departures.now words.now.fates.now words.now.stats.now }
     requires opened { (a : View) × IsOpened a (F.view files.old) words.now.arrivals.now arrivals.now.file }
     requires classic { arrivals.now.given.rest ≡ true }
     requires plain { is_conditioned found.now ≡ false }
     requires few { length arrivals.now.given.front.items ≤ 24 }
     ensures ended { (a : View) → IsBehind a (F.view files.old) (names_read words.now) found.now arrivals.now
-        → HasEnded (D.stands discipline.new) (K.told keeper.new) a (F.view files.new) (names_read words.now) words.now.seed found.now result }
+        → HasEnded (D.view discipline.new).represents (K.told keeper.new) a (F.view files.new) (names_read words.now) words.now.seed found.now result }
     ensures before { K.before keeper.new ≡ K.before keeper.old }
 {
     laws_hold();
@@ -81,13 +81,13 @@ fn made_by<D: Discipline, K: Keeper, F: Files>(
     discipline: &mut D,
     keeper: &mut K,
 ) -> Result<Totals, PlayFault>
-    requires new { AreNew (D.stands discipline.old) (D.policy discipline.old) (D.link_rate discipline.old) (K.told keeper.old) found.now }
+    requires new { AreNew (D.view discipline.old).represents (D.view discipline.old).policy (D.view discipline.old).link_rate (K.told keeper.old) found.now }
     requires distinct { AreDistinct words.now.config.now words.now.arrivals.now words.now.departures.now words.now.fates.now words.now.stats.now }
     requires opened { (a : View) × IsOpened a (F.view files.old) words.now.arrivals.now arrivals.now.file }
     requires marked { arrivals.now.given.rest ≡ true → is_conditioned found.now ≡ true }
     requires few { arrivals.now.given.rest ≡ true → length arrivals.now.given.front.items ≤ 24 }
     ensures ended { (a : View) → IsBehind a (F.view files.old) (names_read words.now) found.now arrivals.now
-        → HasEnded (D.stands discipline.new) (K.told keeper.new) a (F.view files.new) (names_read words.now) words.now.seed found.now result }
+        → HasEnded (D.view discipline.new).represents (K.told keeper.new) a (F.view files.new) (names_read words.now) words.now.seed found.now result }
     ensures before { K.before keeper.new ≡ K.before keeper.old }
 {
     laws_hold();
@@ -118,12 +118,12 @@ fn opened_by<D: Discipline, K: Keeper, F: Files>(
     discipline: &mut D,
     keeper: &mut K,
 ) -> Result<Totals, PlayFault>
-    requires new { AreNew (D.stands discipline.old) (D.policy discipline.old) (D.link_rate discipline.old) (K.told keeper.old) found.now }
+    requires new { AreNew (D.view discipline.old).represents (D.view discipline.old).policy (D.view discipline.old).link_rate (K.told keeper.old) found.now }
     requires distinct { AreDistinct words.now.config.now words.now.arrivals.now words.now.departures.now words.now.fates.now words.now.stats.now }
     requires opened { (a : View) × IsOpened a (F.view files.old) words.now.arrivals.now arrivals.now.file }
     requires few { arrivals.now.given.rest ≡ true → length arrivals.now.given.front.items ≤ 24 }
     ensures ended { (a : View) → IsBehind a (F.view files.old) (names_read words.now) found.now arrivals.now
-        → HasEnded (D.stands discipline.new) (K.told keeper.new) a (F.view files.new) (names_read words.now) words.now.seed found.now result }
+        → HasEnded (D.view discipline.new).represents (K.told keeper.new) a (F.view files.new) (names_read words.now) words.now.seed found.now result }
     ensures before { K.before keeper.new ≡ K.before keeper.old }
 {
     if stands_as_given(&arrivals.given, found) {
@@ -144,17 +144,17 @@ pub fn play_found_by<D: Discipline, K: Keeper, F: Files>(
     discipline: &mut D,
     keeper: &mut K,
 ) -> Result<Totals, Unplayed>
-    requires new { D.stands discipline.old [] }
+    requires new { (D.view discipline.old).represents [] }
     requires begun { K.told keeper.old [] }
-    requires policy { D.policy discipline.old ≡ policy_of found.now }
-    requires rate { HasRate (D.link_rate discipline.old) found.now.rate }
+    requires policy { (D.view discipline.old).policy ≡ policy_of found.now }
+    requires rate { HasRate (D.view discipline.old).link_rate found.now.rate }
     requires configured { IsConfigured found.now }
     requires accepted { Accepts (F.view files.old) words.now.config.now words.now.interface.now found.now }
     requires distinct { AreDistinct words.now.config.now words.now.arrivals.now words.now.departures.now words.now.fates.now words.now.stats.now }
     ensures done { IfOk result (PlaysTo (F.view files.old) (F.view files.new) (names_read words.now) words.now.seed) }
     ensures ends { IfErr result (λ fault. PlayEnds (F.view files.old) (F.view files.new) (names_read words.now) words.now.seed
         (Err (unplayed_failure fault))) }
-    ensures told { IfOk result (PlaysBy (D.stands discipline.new) (K.told keeper.new) (F.view files.old) (F.view files.new)
+    ensures told { IfOk result (PlaysBy (D.view discipline.new).represents (K.told keeper.new) (F.view files.old) (F.view files.new)
         (names_read words.now) words.now.seed found.now) }
     ensures before { K.before keeper.new ≡ K.before keeper.old }
     ensures silent { (F.view files.new).said ≡ (F.view files.old).said }
@@ -181,12 +181,12 @@ pub(crate) fn play_classic_by<D: Discipline, K: Keeper, F: Files>(
     discipline: &mut D,
     keeper: &mut K,
 ) -> Result<Totals, PlayFault>
-    requires new { AreNew (D.stands discipline.old) (D.policy discipline.old) (D.link_rate discipline.old) (K.told keeper.old) found.now }
+    requires new { AreNew (D.view discipline.old).represents (D.view discipline.old).policy (D.view discipline.old).link_rate (K.told keeper.old) found.now }
     requires accepted { Accepts (F.view files.old) words.now.config.now words.now.interface.now found.now }
     requires classic { IsTrue (F.view files.old).tells → (given : List ℕ) → (F.view files.old).bytes words.now.arrivals.now ≡ Some given
         → is_pcapng given ≡ false }
     requires distinct { AreDistinct words.now.config.now words.now.arrivals.now words.now.departures.now words.now.fates.now words.now.stats.now }
-    ensures ended { HasEnded (D.stands discipline.new) (K.told keeper.new) (F.view files.old) (F.view files.new) (names_read words.now) words.now.seed
+    ensures ended { HasEnded (D.view discipline.new).represents (K.told keeper.new) (F.view files.old) (F.view files.new) (names_read words.now) words.now.seed
         found.now result }
     ensures before { K.before keeper.new ≡ K.before keeper.old }
 {

@@ -25,9 +25,11 @@ pub(crate) fn play_by<D: Discipline, K: Keeper, F: Files>(
     seed: u64,
     opened: &Opened<'_>,
 ) -> Result<Totals, PlayFault>
-    requires new { AreNew (D.stands discipline.old) (D.policy discipline.old) (D.link_rate discipline.old) (K.told keeper.old) interface.now }
+    requires new { AreNew (D.view discipline.old).represents (D.view discipline.old).policy (D.view discipline.old).link_rate
+        (K.told keeper.old) interface.now }
     requires ready { AreReady (F.view files.old) opened.now }
-    ensures came { CameOf (setup_of interface.now seed) (D.stands discipline.new) (K.told keeper.new) opened.now result (F.view files.old) (F.view files.new) }
+    ensures came { CameOf (setup_of interface.now seed) (D.view discipline.new).represents (K.told keeper.new) opened.now result (F.view files.old)
+        (F.view files.new) }
     ensures stays { Stays opened.now result (F.view files.old) (F.view files.new) }
     ensures before { K.before keeper.new ≡ K.before keeper.old }
 {

@@ -31,9 +31,9 @@ fn found_built<D: Discipline + Drop, K: Keeper, F: Files>(
     keeper: &mut K,
 ) -> Result<Totals, Unplayed>
     requires begun { K.told keeper.old [] }
-    requires new { IfOk built (λ d. D.stands d []) }
-    requires policy { IfOk built (λ d. D.policy d ≡ policy_of found.now) }
-    requires rate { IfOk built (λ d. HasRate (D.link_rate d) found.now.rate) }
+    requires new { IfOk built (λ d. (D.view d).represents []) }
+    requires policy { IfOk built (λ d. (D.view d).policy ≡ policy_of found.now) }
+    requires rate { IfOk built (λ d. HasRate (D.view d).link_rate found.now.rate) }
     requires configured { IsConfigured found.now }
     requires accepted { Accepts (F.view files.old) words.now.config.now words.now.interface.now found.now }
     requires distinct { AreDistinct words.now.config.now words.now.arrivals.now words.now.departures.now words.now.fates.now words.now.stats.now }
@@ -116,9 +116,9 @@ fn classic_built<D: Discipline + Drop, K: Keeper, F: Files>(
     keeper: &mut K,
 ) -> Result<Totals, PlayFault>
     requires begun { K.told keeper.old [] }
-    requires new { IfOk built (λ d. D.stands d []) }
-    requires policy { IfOk built (λ d. D.policy d ≡ policy_of found.now) }
-    requires rate { IfOk built (λ d. HasRate (D.link_rate d) found.now.rate) }
+    requires new { IfOk built (λ d. (D.view d).represents []) }
+    requires policy { IfOk built (λ d. (D.view d).policy ≡ policy_of found.now) }
+    requires rate { IfOk built (λ d. HasRate (D.view d).link_rate found.now.rate) }
     requires configured { IsConfigured found.now }
     requires accepted { Accepts (F.view files.old) words.now.config.now words.now.interface.now found.now }
     requires classic { IsTrue (F.view files.old).tells → (given : List ℕ) → (F.view files.old).bytes words.now.arrivals.now ≡ Some given

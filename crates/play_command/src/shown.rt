@@ -31,9 +31,11 @@ fn converted_by<D: Discipline, K: Keeper, F: Files>(
     keeper: &mut K,
     capture: &[u8],
 ) -> Result<Totals, PlayFault>
-    requires new { AreNew (D.stands discipline.old) (D.policy discipline.old) (D.link_rate discipline.old) (K.told keeper.old) interface.now }
+    requires new { AreNew (D.view discipline.old).represents (D.view discipline.old).policy (D.view discipline.old).link_rate
+        (K.told keeper.old) interface.now }
     requires ready { AreReady (F.view files.old) opened.now }
-    ensures come { ComesThrough (CameOf (setup_of interface.now seed) (D.stands discipline.new) (K.told keeper.new) opened.now result) opened.now result
+    ensures come { ComesThrough (CameOf (setup_of interface.now seed) (D.view discipline.new).represents
+        (K.told keeper.new) opened.now result) opened.now result
         (F.view files.old) (F.view files.new) (Some capture.now) false }
     ensures before { K.before keeper.new ≡ K.before keeper.old }
 {
@@ -68,10 +70,12 @@ fn marked_by<D: Discipline, K: Keeper, F: Files>(
     keeper: &mut K,
     first: &[u8],
 ) -> Result<Totals, PlayFault>
-    requires new { AreNew (D.stands discipline.old) (D.policy discipline.old) (D.link_rate discipline.old) (K.told keeper.old) interface.now }
+    requires new { AreNew (D.view discipline.old).represents (D.view discipline.old).policy (D.view discipline.old).link_rate
+        (K.told keeper.old) interface.now }
     requires ready { AreReady (F.view files.old) opened.now }
     requires few { length first.now ≤ 24 }
-    ensures come { ComesThrough (CameOf (setup_of interface.now seed) (D.stands discipline.new) (K.told keeper.new) opened.now result) opened.now result
+    ensures come { ComesThrough (CameOf (setup_of interface.now seed) (D.view discipline.new).represents
+        (K.told keeper.new) opened.now result) opened.now result
         (F.view files.old) (F.view files.new) (marked_of interface.now first.now (F.view files.old) opened.now.arrivals) true }
     ensures before { K.before keeper.new ≡ K.before keeper.old }
 {
@@ -107,9 +111,11 @@ fn marked_converted_by<D: Discipline, K: Keeper, F: Files>(
     keeper: &mut K,
     capture: &[u8],
 ) -> Result<Totals, PlayFault>
-    requires new { AreNew (D.stands discipline.old) (D.policy discipline.old) (D.link_rate discipline.old) (K.told keeper.old) interface.now }
+    requires new { AreNew (D.view discipline.old).represents (D.view discipline.old).policy (D.view discipline.old).link_rate
+        (K.told keeper.old) interface.now }
     requires ready { AreReady (F.view files.old) opened.now }
-    ensures come { ComesThrough (CameOf (setup_of interface.now seed) (D.stands discipline.new) (K.told keeper.new) opened.now result) opened.now result
+    ensures come { ComesThrough (CameOf (setup_of interface.now seed) (D.view discipline.new).represents
+        (K.told keeper.new) opened.now result) opened.now result
         (F.view files.old) (F.view files.new) (Some (marked_in interface.now capture.now)) false }
     ensures before { K.before keeper.new ≡ K.before keeper.old }
 {
@@ -147,11 +153,13 @@ pub(crate) fn shown_by<D: Discipline, K: Keeper, F: Files>(
     keeper: &mut K,
     given: &Given,
 ) -> Result<Totals, PlayFault>
-    requires new { AreNew (D.stands discipline.old) (D.policy discipline.old) (D.link_rate discipline.old) (K.told keeper.old) interface.now }
+    requires new { AreNew (D.view discipline.old).represents (D.view discipline.old).policy (D.view discipline.old).link_rate
+        (K.told keeper.old) interface.now }
     requires ready { AreReady (F.view files.old) opened.now }
     requires marked { given.now.rest ≡ true → is_conditioned interface.now ≡ true }
     requires few { given.now.rest ≡ true → length given.now.front.items ≤ 24 }
-    ensures come { ComesThrough (CameOf (setup_of interface.now seed) (D.stands discipline.new) (K.told keeper.new) opened.now result) opened.now result
+    ensures come { ComesThrough (CameOf (setup_of interface.now seed) (D.view discipline.new).represents
+        (K.told keeper.new) opened.now result) opened.now result
         (F.view files.old) (F.view files.new) (shown_of interface.now given.now (F.view files.old) opened.now.arrivals) given.now.rest }
     ensures before { K.before keeper.new ≡ K.before keeper.old }
 {

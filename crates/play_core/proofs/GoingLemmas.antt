@@ -5,7 +5,7 @@ use Rattle.std.specs.declared.option.Option.{Option}
 use Rattle.altq_model.specs.declared.Fate.{Fate}
 use Rattle.altq_model.specs.declared.Fate.TheVariants
 use Rattle.altq_model.specs.Arrivals.{Captured, arrival, bare_arrivals}
-use Rattle.altq_model.specs.History.{Event, DrawnWords, Happened, bare, offered, labels, Decision, journal}
+use Rattle.altq_model.specs.History.{Event, DrawnWords, LabelledEvent, unlabelled, offered, labels, Decision, journal}
 use Rattle.altq_model.specs.Lawful.{IsLawful, IsSteady, latest}
 use Rattle.altq_model.specs.Link.{Link}
 use Rattle.altq_model.specs.Play.{Policy}
@@ -17,6 +17,7 @@ use Rattle.link_clock.specs.Clock.{Clock}
 use Rattle.discipline.specs.declared.laws.Discipline.{Ghosts}
 use Rattle.discipline.specs.Laws.{AreDistinct, held_in, room_of}
 use Rattle.discipline.specs.Moments.{IsChoice, StartsBy}
+use Rattle.discipline.specs.View.{DisciplineView, SameKind, Unchanged}
 use Rattle.play_core.specs.declared.state.Progress.{Progress}
 use Rattle.play_core.specs.declared.totals.Totals.{Totals}
 use Rattle.play_core.specs.declared.step.Step.{Step}
@@ -37,84 +38,85 @@ pub record IsPromised (p : Policy) (rate : ℕ) : Type 0 where
   pub steady : IsSteady p
   pub distinct : AreDistinct p.classes
 
--- what a play holds: its discipline's policy, histories, lists, limits and rate, the random words drawn, and how far it has come
+-- what a play holds: what its discipline shows, the random words drawn, and how far it has come
 pub record State : Type 1 where
-  pub policy : Policy
-  pub stood : List Happened → Type 0
-  pub lists : ℕ → List Entry
-  pub limits : ℕ → ℕ
-  pub rate : Option ℕ
+  pub shown : DisciplineView
   pub words : DrawnWords
   pub progress : Progress
 
 abbrev pub state : {S : Type 0} → Ghosts S → S → DrawnWords → Progress → State
-state D d w x = record { policy = D.policy d; stood = D.stands d; lists = D.lists d; limits = D.limits d; rate = D.link_rate d; words = w; progress = x }
+state D d w x = record { shown = D.view d; words = w; progress = x }
 
-abbrev pub Going : State → List Captured → List Happened → Type 0
-Going s arrived g = IsGoing s.policy s.stood s.lists s.limits s.rate arrived s.words s.progress g
+abbrev pub Going : State → List Captured → List LabelledEvent → Type 0
+Going s arrived g = IsGoing s.shown arrived s.words s.progress g
 
--- under the names that an earlier state has for what never changes
-abbrev pub GoingAs : State → State → List Captured → List Happened → Type 0
-GoingAs s t arrived g = IsGoing s.policy t.stood t.lists s.limits s.rate arrived t.words t.progress g
+-- a view with what never changes as an earlier one has it
+abbrev pub named_as : DisciplineView → DisciplineView → DisciplineView
+named_as old new = record new { policy = old.policy; limits = old.limits; link_rate = old.link_rate }
+
+abbrev pub GoingAs : State → State → List Captured → List LabelledEvent → Type 0
+GoingAs s t arrived g = IsGoing (named_as s.shown t.shown) arrived t.words t.progress g
 
 -- a play goes on, of a discipline that keeps its promises
-pub record Goes (s : State) (arrived : List Captured) (g : List Happened) : Type 0 where
-  pub promised : IsPromised s.policy s.progress.clock.rate
+pub record Goes (s : State) (arrived : List Captured) (g : List LabelledEvent) : Type 0 where
+  pub promised : IsPromised s.shown.policy s.progress.clock.rate
   pub going : Going s arrived g
 
-abbrev pub goes_by : {S : Type 0} (D : Ghosts S) (d : S) {arrived : List Captured} {w : DrawnWords} {x : Progress} {g : List Happened}
-    → ((d : S) (h : List Happened) → D.stands d h → IsLawful (D.policy d)) → ((d : S) (h : List Happened) → D.stands d h → IsSteady (D.policy d))
-    → ((d : S) (h : List Happened) → D.stands d h → AreDistinct (D.policy d).classes) → Going (state D d w x) arrived g → Goes (state D d w x) arrived g
+abbrev pub goes_by : {S : Type 0} (D : Ghosts S) (d : S) {arrived : List Captured} {w : DrawnWords} {x : Progress} {g : List LabelledEvent}
+    → ((d : S) (h : List LabelledEvent) → (D.view d).represents h → IsLawful (D.view d).policy) → ((d : S) (h : List LabelledEvent) → (D.view d).represents h → IsSteady (D.view d).policy)
+    → ((d : S) (h : List LabelledEvent) → (D.view d).represents h → AreDistinct (D.view d).policy.classes) → Going (state D d w x) arrived g → Goes (state D d w x) arrived g
 goes_by D d {x = x} lawful steady distinct y = record {
-  promised = record { positive = omega (arith, x.least); lawful = lawful d y.told y.stands; steady = steady d y.told y.stands; distinct = distinct d y.told y.stands };
+  promised = record { positive = omega (arith, x.least); lawful = lawful d y.recorded y.represents; steady = steady d y.recorded y.represents; distinct = distinct d y.recorded y.represents };
   going = y;
 }
 
--- what never changes of a discipline
-pub record SameKind (s t : State) : Type 0 where
-  pub policy : t.policy ≡ s.policy
-  pub limits : t.limits ≡ s.limits
-  pub rate : t.rate ≡ s.rate
-
 -- what is told of a play that goes on
-pub come_of : {s : State} {arrived : List Captured} {g : List Happened} → Goes s arrived g
-    → HasCome s.policy s.progress.clock.rate s.words.seed (bare_arrivals arrived) g
+pub come_of : {s : State} {arrived : List Captured} {g : List LabelledEvent} → Goes s arrived g
+    → HasCome s.shown.policy s.progress.clock.rate s.words.seed (bare_arrivals arrived) g
 come_of u = record { positive = u.promised.positive; lawful = u.promised.lawful; steady = u.promised.steady; rising = u.going.rising; begun = u.going.begun }
 
 -- what the code knows of the history is so of the play's
-now_is : (s : State) (arrived : List Captured) (g : List Happened) (t : ℕ) → (y : Going s arrived g) → t ≡ max s.progress.clock.link.free s.progress.latest
-    → ◌≡◌ {A = Clock × ℕ × List Event} (s.progress.clock, t, bare y.told)
-    (clock_after s.progress.clock.rate (bare g), moment_after s.progress.clock.rate (bare g), bare g)
+now_is : (s : State) (arrived : List Captured) (g : List LabelledEvent) (t : ℕ) → (y : Going s arrived g) → t ≡ max s.progress.clock.link.free s.progress.latest
+    → ◌≡◌ {A = Clock × ℕ × List Event} (s.progress.clock, t, unlabelled y.recorded)
+    (clock_after s.progress.clock.rate (unlabelled g), moment_after s.progress.clock.rate (unlabelled g), unlabelled g)
 now_is s arrived g t y e =
-    let clock : s.progress.clock ≡ clock_after s.progress.clock.rate (bare g) =
+    let clock : s.progress.clock ≡ clock_after s.progress.clock.rate (unlabelled g) =
     ap (λ (l : Link). let c : Clock = record { rate = s.progress.clock.rate; link = l } in c) y.link_is in
-    let moment : t ≡ moment_after s.progress.clock.rate (bare g) = omega (arith, e, y.latest_is, ap (λ (l : Link). l.free) y.link_is) in
+    let moment : t ≡ moment_after s.progress.clock.rate (unlabelled g) = omega (arith, e, y.latest_is, ap (λ (l : Link). l.free) y.link_is) in
     cc (clock, moment, y.same)
 
-pub ready : (s : State) (arrived : List Captured) (g : List Happened) (t : ℕ) → (u : Goes s arrived g) → t ≡ max s.progress.clock.link.free s.progress.latest
-    → IsChoice t s.progress.clock (bare u.going.told)
+pub ready : (s : State) (arrived : List Captured) (g : List LabelledEvent) (t : ℕ) → (u : Goes s arrived g) → t ≡ max s.progress.clock.link.free s.progress.latest
+    → IsChoice t s.progress.clock (unlabelled u.going.recorded)
 ready s arrived g t u e =
     let C : Clock × ℕ × List Event → Type 0 = λ q. IsChoice q.1 q.0 q.2 in
     subst C (sym (now_is s arrived g t u.going e)) (choice _ _ _ _ _ (come_of u))
 
 -- what comes next by the discipline comes next in the play
-pub step_on : {s : State} {arrived : List Captured} {g : List Happened} {t : ℕ} {next : Option ℕ} (step : Step) → (u : Goes s arrived g)
-    → ((h : List Happened) → s.stood h → IsChoice t s.progress.clock (bare h) → IsStep s.policy s.progress.clock t (bare h) next step)
-    → t ≡ max s.progress.clock.link.free s.progress.latest → next ≡ arrives arrived g → ComesNow s.policy s.progress.clock.rate (bare_arrivals arrived) g step
+pub step_on : {s : State} {arrived : List Captured} {g : List LabelledEvent} {t : ℕ} {next : Option ℕ} (step : Step) → (u : Goes s arrived g)
+    → ((h : List LabelledEvent) → s.shown.represents h → IsChoice t s.progress.clock (unlabelled h) → IsStep s.shown.policy s.progress.clock t (unlabelled h) next step)
+    → t ≡ max s.progress.clock.link.free s.progress.latest → next ≡ arrives arrived g → ComesNow s.shown.policy s.progress.clock.rate (bare_arrivals arrived) g step
 step_on {s = s} {arrived = arrived} {g = g} {t = t} {next = next} step u f e a =
-    let S : Clock × ℕ × List Event → Type 0 = λ q. IsStep s.policy q.0 q.1 q.2 next step in
-    let A : Option ℕ → Type 0 = λ o. IsStep s.policy (clock_after s.progress.clock.rate (bare g)) (moment_after s.progress.clock.rate (bare g)) (bare g) o step in
-    subst A a (subst S (now_is s arrived g t u.going e) (f u.going.told u.going.stands (ready s arrived g t u e)))
+    let S : Clock × ℕ × List Event → Type 0 = λ q. IsStep s.shown.policy q.0 q.1 q.2 next step in
+    let A : Option ℕ → Type 0 = λ o. IsStep s.shown.policy (clock_after s.progress.clock.rate (unlabelled g)) (moment_after s.progress.clock.rate (unlabelled g)) (unlabelled g) o step in
+    subst A a (subst S (now_is s arrived g t u.going e) (f u.going.recorded u.going.represents (ready s arrived g t u e)))
 
-pub moment_by : {s : State} {arrived : List Captured} {g : List Happened} {moment : ℕ} → (u : Goes s arrived g)
-    → ((t : ℕ) → latest (bare u.going.told) ≤ t → StartsBy t (bare u.going.told) → moment ≤ t) → moment ≤ max s.progress.clock.link.free s.progress.latest
+pub moment_by : {s : State} {arrived : List Captured} {g : List LabelledEvent} {moment : ℕ} → (u : Goes s arrived g)
+    → ((t : ℕ) → latest (unlabelled u.going.recorded) ≤ t → StartsBy t (unlabelled u.going.recorded) → moment ≤ t) → moment ≤ max s.progress.clock.link.free s.progress.latest
 moment_by {s = s} {arrived = arrived} {g = g} u f = let c = ready s arrived g (max s.progress.clock.link.free s.progress.latest) u refl in f _ c.arrived c.started
 
--- a discipline that was asked stands for the same
-abbrev pub still_going : {s : State} (stood : List Happened → Type 0) (lists : ℕ → List Entry) {arrived : List Captured} {g : List Happened}
-    → ((h : List Happened) → s.stood h → stood h) → ((c : ℕ) → lists c ≡ s.lists c) → Goes s arrived g
-    → Goes (record s { stood = stood; lists = lists }) arrived g
-still_going {s = s} stood lists keep same u =
+-- under other names of the same policy, limits and rate
+named : (old new : DisciplineView) (P : DisciplineView → Type 0) → SameKind old new → P (named_as old new) → P new
+named old new P k y =
+    let Q : Policy × (ℕ → ℕ) × Option ℕ → Type 0 = λ q. P (record new { policy = q.0; limits = q.1; link_rate = q.2 }) in
+    subst Q (cc (k.policy, k.limits, k.link_rate)) y
+
+pub renamed : (s t : State) {arrived : List Captured} {g : List LabelledEvent} → SameKind s.shown t.shown → GoingAs s t arrived g → Going t arrived g
+renamed s t {arrived = arrived} {g = g} k y = named s.shown t.shown (λ d. IsGoing d arrived t.words t.progress g) k y
+
+-- a discipline that was asked represents the same
+abbrev pub still_going : {s : State} (d : DisciplineView) {arrived : List Captured} {g : List LabelledEvent} → Unchanged s.shown d → Goes s arrived g
+    → Goes (record s { shown = named_as s.shown d }) arrived g
+still_going {s = s} d k u =
     let y = u.going in
     record {
       promised = u.promised;
@@ -128,42 +130,35 @@ still_going {s = s} stood lists keep same u =
         latest_is = y.latest_is;
         totals = y.totals;
         rate_is = y.rate_is;
-        told = y.told;
-        stands = keep y.told y.stands;
+        recorded = y.recorded;
+        represents = k.represents y.recorded y.represents;
         same = y.same;
         holds = y.holds;
-        count = y.count ∙ sym (held_same s.lists lists s.policy.classes same);
-        within = omega (arith, y.within, held_same s.lists lists s.policy.classes same);
+        count = y.count ∙ sym (held_same s.shown.lists d.lists s.shown.policy.classes k.lists);
+        within = omega (arith, y.within, held_same s.shown.lists d.lists s.shown.policy.classes k.lists);
         room = y.room;
       };
     }
 
--- under other names of the same policy, limits and rate
-pub renamed : {s t : State} {arrived : List Captured} {g : List Happened} → SameKind s t → GoingAs s t arrived g → Going t arrived g
-renamed {s = s} {t = t} {arrived = arrived} {g = g} k y =
-    let P : Policy × (ℕ → ℕ) × Option ℕ → Type 0 = λ q. IsGoing q.0 t.stood t.lists q.1 q.2 arrived t.words t.progress g in
-    subst P (cc (k.policy, k.limits, k.rate)) y
+-- and goes on as it was
+pub asked_on : {s : State} {arrived : List Captured} {g : List LabelledEvent} (d : DisciplineView) → Goes s arrived g → Unchanged s.shown d
+    → IsGoing d arrived s.words s.progress g
+asked_on {s = s} {arrived = arrived} {g = g} d u k =
+    named s.shown d (λ x. IsGoing x arrived s.words s.progress g) k.kind (still_going d k u).going
 
--- a discipline that was asked goes on as it was
-pub asked_on : {s : State} {arrived : List Captured} {g : List Happened} (t : State) → Goes s arrived g → SameKind s t → ((h : List Happened) → s.stood h → t.stood h)
-    → ((c : ℕ) → t.lists c ≡ s.lists c) → IsGoing t.policy t.stood t.lists t.limits t.rate arrived s.words s.progress g
-asked_on {s = s} {arrived = arrived} {g = g} t u k keep same =
-    let P : Policy × (ℕ → ℕ) × Option ℕ → Type 0 = λ q. IsGoing q.0 t.stood t.lists q.1 q.2 arrived s.words s.progress g in
-    subst P (cc (k.policy, k.limits, k.rate)) (still_going t.stood t.lists keep same u).going
-
-pub within_old : {s t : State} → SameKind s t → held_in t.lists t.policy.classes ≤ room_of t.limits t.policy.classes
-    → held_in t.lists s.policy.classes ≤ room_of s.limits s.policy.classes
-within_old {s = s} {t = t} k l =
-    let e : ◌≡◌ {A = Policy × (ℕ → ℕ)} (t.policy, t.limits) (s.policy, s.limits) = cc (k.policy, k.limits) in
-    let P : Policy × (ℕ → ℕ) → Type 0 = λ q. held_in t.lists q.0.classes ≤ room_of q.1 q.0.classes in
+pub within_old : (s t : State) → SameKind s.shown t.shown → held_in t.shown.lists t.shown.policy.classes ≤ room_of t.shown.limits t.shown.policy.classes
+    → held_in t.shown.lists s.shown.policy.classes ≤ room_of s.shown.limits s.shown.policy.classes
+within_old s t k l =
+    let e : ◌≡◌ {A = Policy × (ℕ → ℕ)} (t.shown.policy, t.shown.limits) (s.shown.policy, s.shown.limits) = cc (k.policy, k.limits) in
+    let P : Policy × (ℕ → ℕ) → Type 0 = λ q. held_in t.shown.lists q.0.classes ≤ room_of q.1 q.0.classes in
     subst P e l
 
 -- the number of the ticket at the front of a class
-pub front_of : {s : State} {arrived : List Captured} {g : List Happened} {ticket : ℕ} (class : ℕ) → (y : Going s arrived g) → slice_get (labels class y.told) 0 ≡ Some ticket
+pub front_of : {s : State} {arrived : List Captured} {g : List LabelledEvent} {ticket : ℕ} (class : ℕ) → (y : Going s arrived g) → slice_get (labels class y.recorded) 0 ≡ Some ticket
     → FrontHeld arrived g s.progress.pool (labels class g) ticket
-front_of class y e = front_held _ _ _ (labels class y.told) _ _ (y.holds class) e
+front_of class y e = front_held _ _ _ (labels class y.recorded) _ _ (y.holds class) e
 
-pub front_there : {s : State} {arrived : List Captured} {g : List Happened} {ticket : ℕ} (class : ℕ) → (y : Going s arrived g) → slice_get (labels class y.told) 0 ≡ Some ticket
+pub front_there : {s : State} {arrived : List Captured} {g : List LabelledEvent} {ticket : ℕ} (class : ℕ) → (y : Going s arrived g) → slice_get (labels class y.recorded) 0 ≡ Some ticket
     → IsSome (packet_of s.progress.pool ticket)
 front_there class y e = ap (λ (o : Option Packet). is_some o) (front_of class y e).holds.packet
 
@@ -171,16 +166,16 @@ pub same_packet : (a b : Packet) → Some a ≡ Some b → a ≡ b
 same_packet a b h = cc
 
 -- the number of what is sent was offered
-pub number_within : {s : State} {arrived : List Captured} {g : List Happened} {ticket : ℕ} {packet : Packet} (class : ℕ) → (u : Goes s arrived g)
-    → slice_get (labels class u.going.told) 0 ≡ Some ticket → packet_of s.progress.pool ticket ≡ Some packet
+pub number_within : {s : State} {arrived : List Captured} {g : List LabelledEvent} {ticket : ℕ} {packet : Packet} (class : ℕ) → (u : Goes s arrived g)
+    → slice_get (labels class u.going.recorded) 0 ≡ Some ticket → packet_of s.progress.pool ticket ≡ Some packet
     → (1 ≤ packet.number) × (packet.number ≤ s.progress.totals.arrived)
 number_within {arrived = arrived} {g = g} {packet = packet} class u e q =
     let f = front_of class u.going e in
     let n = ap (λ (b : Packet). b.number) (same_packet packet (numbered f.number (arrival arrived f.number)) (sym q ∙ f.holds.packet)) in
     let o = first_counts f.number (labels class g) f.first in
     let l = (laws_of (come_of u)).waits_once f.number class in (
-      omega (arith, n, from_one f.number (offered (bare g)) (omega (arith, o, l))),
-      omega (arith, n, u.going.totals.arrived, within_count f.number (offered (bare g)) (omega (arith, o, l))),
+      omega (arith, n, from_one f.number (offered (unlabelled g)) (omega (arith, o, l))),
+      omega (arith, n, u.going.totals.arrived, within_count f.number (offered (unlabelled g)) (omega (arith, o, l))),
     )
 
 same_turn : (d e : Departure) → turn.Send d ≡ turn.Send e → d ≡ e
@@ -212,7 +207,7 @@ pub record AreFew (t : Totals) : Type 0 where
   pub sent : t.sent ≤ 4000000
   pub dropped : t.dropped ≤ 4000000
 
-pub few_counts : {s : State} {arrived : List Captured} {g : List Happened} → Goes s arrived g → AreFew s.progress.totals
+pub few_counts : {s : State} {arrived : List Captured} {g : List LabelledEvent} → Goes s arrived g → AreFew s.progress.totals
 few_counts {arrived = arrived} {g = g} u =
     let laws = laws_of (come_of u) in
     let l = bare_arrivals_length arrived in

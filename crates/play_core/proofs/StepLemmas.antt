@@ -3,7 +3,7 @@ use Rattle.std.proofs.Common.{◌≡◌, ◌≤◌, ◌<◌, ◌∙◌, ℕ, min
 use Rattle.std.specs.Prelude.{slice_get, nat_le, option_map}
 use Rattle.std.specs.declared.option.Option.{Option}
 use Rattle.altq_model.specs.declared.Rule.{Rule}
-use Rattle.altq_model.specs.History.{Arrival, Event, Offered, Sent, Happened, bare, head, labels, waiting}
+use Rattle.altq_model.specs.History.{Arrival, Event, Offered, Sent, LabelledEvent, unlabelled, head, labels, waiting}
 use Rattle.altq_model.specs.Laws.{clock_end}
 use Rattle.altq_model.specs.Link.{Link, link, end_of}
 use Rattle.altq_model.specs.Play.{Policy, Choice, IsOneOf, lesser}
@@ -20,22 +20,22 @@ use Rattle.play_core.specs.declared.step.Step.TheVariants.{End, Offer, Send, Lat
 use Rattle.play_core.specs.Steps.{IsSentAt, IsStep, OffersFirst, SendsFirst, comes_by, step_at}
 
 -- the head of a list is the head of what waits
-pub record HasFront (c : ℕ) (g : List Happened) (ticket : Ticket) (len : ℕ) : Type 0 where
+pub record HasFront (c : ℕ) (g : List LabelledEvent) (ticket : Ticket) (len : ℕ) : Type 0 where
   pub number : slice_get (labels c g) 0 ≡ Some ticket.0
   pub packet : Arrival
-  pub front : head c (bare g) ≡ Some packet
+  pub front : head c (unlabelled g) ≡ Some packet
   pub len_is : packet.len ≡ len
 
 front_of : (xs : List Entry) (ws : List Arrival) (x : Entry) → seen (x ∷ xs) ≡ seen_of ws → (packet : Arrival) × (slice_get ws 0 ≡ Some packet) × (packet.len ≡ x.len)
 front_of xs [] x h = absurd (cc)
 front_of xs (a ∷ ws) x h = (a, refl, let e : (x.len, x.prec) ≡ (a.len, a.prec) = cc in sym (ap (λ (q : ℕ × ℕ). q.0) e))
 
-pub shown_head : (c : ℕ) (xs : List Entry) (g : List Happened) (ticket : Ticket) (len prec : ℕ) → Shows c xs g → slice_get xs 0 ≡ Some (entry ticket len prec)
+pub shown_head : (c : ℕ) (xs : List Entry) (g : List LabelledEvent) (ticket : Ticket) (len prec : ℕ) → Shows c xs g → slice_get xs 0 ≡ Some (entry ticket len prec)
     → HasFront c g ticket len
 shown_head c [] g ticket len prec s h = absurd (cc)
 shown_head c (x ∷ xs) g ticket len prec s h =
     let e : x ≡ entry ticket len prec = cc in
-    let f = front_of xs (waiting c (bare g)) x s.packets in
+    let f = front_of xs (waiting c (unlabelled g)) x s.packets in
     record {
       number = ap (λ (ns : List ℕ). slice_get ns 0) (sym s.labels) ∙ ap (λ (y : Entry). Some y.ticket.0) e;
       packet = f.0;
@@ -47,18 +47,18 @@ same_packet : (a b : Arrival) → Some a ≡ Some b → a ≡ b
 same_packet a b h = cc
 
 -- the head of the class that is due is sent, or would end too late
-pub sends_then : (p : Policy) (clock : Clock) (g : List Happened) (xs : List Entry) (ticket : Ticket) (class len prec : ℕ) (rule : Rule) (start : ℕ)
-    → Shows class xs g → slice_get xs 0 ≡ Some (entry ticket len prec) → p.pick (bare g) start ≡ record { class = class; rule = rule }
-    → IsSentAt p clock start (bare g) (step_at ticket class len rule start (end_of clock.rate clock.link start len))
+pub sends_then : (p : Policy) (clock : Clock) (g : List LabelledEvent) (xs : List Entry) (ticket : Ticket) (class len prec : ℕ) (rule : Rule) (start : ℕ)
+    → Shows class xs g → slice_get xs 0 ≡ Some (entry ticket len prec) → p.pick (unlabelled g) start ≡ record { class = class; rule = rule }
+    → IsSentAt p clock start (unlabelled g) (step_at ticket class len rule start (end_of clock.rate clock.link start len))
 sends_then p clock g xs ticket class len prec rule start s h k = go (nat_le clock_end (end_of clock.rate clock.link start len)) refl
   where
     x : HasFront class g ticket len
     x = shown_head class xs g ticket len prec s h
 
     go : (b : Bool) → nat_le clock_end (end_of clock.rate clock.link start len) ≡ b
-        → IsSentAt p clock start (bare g) (cond b Late (Send (record { ticket = ticket; class = class; len = len; rule = rule; start = start; end = end_of clock.rate clock.link start len })))
+        → IsSentAt p clock start (unlabelled g) (cond b Late (Send (record { ticket = ticket; class = class; len = len; rule = rule; start = start; end = end_of clock.rate clock.link start len })))
     go true e = λ packet f.
-        let there : head class (bare g) ≡ Some packet = ap (λ (c : Choice). head c.class (bare g)) (sym k) ∙ f in
+        let there : head class (unlabelled g) ≡ Some packet = ap (λ (c : Choice). head c.class (unlabelled g)) (sym k) ∙ f in
         let same : packet ≡ x.packet = same_packet packet x.packet (sym there ∙ x.front) in
         let P : ℕ → Type 0 = λ n. clock_end ≤ end_of clock.rate clock.link start n in
         subst P (sym (ap (λ (a : Arrival). a.len) same ∙ x.len_is)) (let l : clock_end ≤ end_of clock.rate clock.link start len = grind (arith, e) in l)
@@ -93,7 +93,7 @@ ticket_case : (b : Bool) (s r : Sending) → cond b Late (Send s) ≡ Send r →
 ticket_case true s r h = absurd (cc)
 ticket_case false s r h = same_sending s r h
 
-pub ticket_then : (g : List Happened) (xs : List Entry) (ticket : Ticket) (class len prec : ℕ) (rule : Rule) (start end : ℕ) (s : Sending)
+pub ticket_then : (g : List LabelledEvent) (xs : List Entry) (ticket : Ticket) (class len prec : ℕ) (rule : Rule) (start end : ℕ) (s : Sending)
     → Shows class xs g → slice_get xs 0 ≡ Some (entry ticket len prec) → step_at ticket class len rule start end ≡ Send s
     → slice_get (labels s.class g) 0 ≡ Some s.ticket.0
 ticket_then g xs ticket class len prec rule start end s w h e =

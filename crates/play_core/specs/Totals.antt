@@ -2,7 +2,7 @@
 use Rattle.std.specs.Prelude.{◌≡◌, ◌+◌, ℕ, List, [], ◌∷◌}
 use Rattle.altq_model.specs.declared.Fate.{Fate}
 use Rattle.altq_model.specs.declared.Fate.TheVariants.{Dropped, Sent}
-use Rattle.altq_model.specs.History.{Decision, Happened, bare, offered, journal}
+use Rattle.altq_model.specs.History.{Decision, LabelledEvent, unlabelled, offered, journal}
 use Rattle.altq_model.specs.Link.{link}
 use Rattle.play_core.specs.declared.totals.Totals.{Totals}
 
@@ -32,5 +32,5 @@ pub record IsCounted (js : List Decision) (offers free : ℕ) (t : Totals) : Typ
 
 -- the totals are the counts of a history: of its offers, its sendings and its drops, and the end of the last sending, 0 where there
 -- is none
-abbrev pub AreTotals : (rate : ℕ) → List Happened → Totals → Type 0
-AreTotals rate g t = IsCounted (journal g) (offered (bare g)) (link rate (bare g)).free t
+abbrev pub AreTotals : (rate : ℕ) → List LabelledEvent → Totals → Type 0
+AreTotals rate g t = IsCounted (journal g) (offered (unlabelled g)) (link rate (unlabelled g)).free t

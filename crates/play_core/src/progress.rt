@@ -1,10 +1,11 @@
 // The next event of a play.
 ghost use Rattle.std.specs.Prelude.{◌≡◌, ◌≢◌, ◌≤◌, ◌<◌, ◌*◌, ◌+◌, ◌^◌, ◌∷◌, [], ℕ, true, false, List, IfOk, OnOk, IsSome, Some, is_some, length, if◌then◌else◌};
 ghost use Rattle.altq_model.specs.Arrivals.{Captured, bare_arrival, bare_arrivals};
-ghost use Rattle.altq_model.specs.History.{DrawnWords, Happened, bare, is_kept, is_mark};
+ghost use Rattle.altq_model.specs.History.{DrawnWords, LabelledEvent, unlabelled, is_kept, is_mark};
 ghost use Rattle.altq_model.specs.Lawful.{AreRising, IsOneOf};
 ghost use Rattle.altq_model.specs.Play.{offer_of};
 ghost use Rattle.discipline.specs.Laws.{HasRate};
+ghost use Rattle.discipline.specs.View.{SameKind};
 ghost use Rattle.leaf_queue.specs.Pool.{count_of, is_marked, packet_of};
 ghost use Rattle.play_core.specs.Going.{IsGoing, one_kept};
 ghost use Rattle.play_core.specs.Turns.{ComesNext, Offers, arrives, packet_of_lent, drop_of, turned};
@@ -31,11 +32,12 @@ impl Progress {
     ) -> Result<Progress, NoMemory>
         requires least { 1000 ≤ rate }
         requires most { rate ≤ 10 ^ 12 }
-        requires rate { HasRate (D.link_rate discipline.now) rate }
-        requires new { D.stands discipline.now [] }
+        requires rate { HasRate (D.view discipline.now).link_rate rate }
+        requires new { (D.view discipline.now).represents [] }
         ensures rate { IfOk result (λ x. x.clock.rate ≡ rate) }
-        ensures going { IfOk result (λ x. (arrived : List Captured) (w : DrawnWords) → w.drawn ≡ 0 → AreRising (bare_arrivals arrived) → length arrived ≤ 4000000 →
-            IsGoing (D.policy discipline.now) (D.stands discipline.now) (D.lists discipline.now) (D.limits discipline.now) (D.link_rate discipline.now) arrived w x []) }
+        ensures going { IfOk result (λ x. (arrived : List Captured) (w : DrawnWords) → w.drawn ≡ 0 → AreRising (bare_arrivals arrived)
+            → length arrived ≤ 4000000 →
+            IsGoing (D.view discipline.now) arrived w x []) }
     {
         let pool = Pool::reserve(alloc, discipline.room() + 1)?;
         Ok(Progress {
@@ -71,37 +73,35 @@ impl Progress {
         placed: Placed,
         room: &mut Vec<u8>,
     ) -> Result<Option<Dropped>, NoMemory>
-        requires class { IsOneOf placed.class (D.policy discipline.old).classes }
+        requires class { IsOneOf placed.class (D.view discipline.old).policy.classes }
         requires prec { placed.prec ≤ 2 }
         requires some { 1 ≤ packet.now.len }
         requires short { packet.now.len ≤ 262144 }
         requires early { packet.now.at < 2 ^ 62 }
-        requires next { (arrived : List Captured) × (g : List Happened) × (a : Captured)
-            × IsGoing (D.policy discipline.old) (D.stands discipline.old) (D.lists discipline.old) (D.limits discipline.old) (D.link_rate discipline.old) arrived words.old self.old g
-            × Offers (D.policy discipline.old) self.old.clock.rate words.old.seed arrived g a packet.now placed }
-        ensures offered { OnOk result ((arrived : List Captured) (g : List Happened) (a : Captured)
-            → IsGoing (D.policy discipline.old) (D.stands discipline.old) (D.lists discipline.old) (D.limits discipline.old) (D.link_rate discipline.old) arrived words.old self.old g
-            → Offers (D.policy discipline.old) self.old.clock.rate words.old.seed arrived g a packet.now placed
-            → IsGoing (D.policy discipline.new) (D.stands discipline.new) (D.lists discipline.new) (D.limits discipline.new) (D.link_rate discipline.new) arrived words.new self.new
-            (offer_of (D.policy discipline.old) words.old.seed g (bare_arrival a) ∷ g)) }
-        ensures told { IfOk result (λ dropped. (arrived : List Captured) (g : List Happened) (a : Captured)
-            → IsGoing (D.policy discipline.old) (D.stands discipline.old) (D.lists discipline.old) (D.limits discipline.old) (D.link_rate discipline.old) arrived words.old self.old g
-            → Offers (D.policy discipline.old) self.old.clock.rate words.old.seed arrived g a packet.now placed
-            → dropped ≡ drop_of ((D.policy discipline.old).answer (bare g) words.old (bare_arrival a)).verdict packet.now) }
+        requires next { (arrived : List Captured) × (g : List LabelledEvent) × (a : Captured)
+            × IsGoing (D.view discipline.old) arrived words.old self.old g
+            × Offers (D.view discipline.old).policy self.old.clock.rate words.old.seed arrived g a packet.now placed }
+        ensures offered { OnOk result ((arrived : List Captured) (g : List LabelledEvent) (a : Captured)
+            → IsGoing (D.view discipline.old) arrived words.old self.old g
+            → Offers (D.view discipline.old).policy self.old.clock.rate words.old.seed arrived g a packet.now placed
+            → IsGoing (D.view discipline.new) arrived words.new self.new
+            (offer_of (D.view discipline.old).policy words.old.seed g (bare_arrival a) ∷ g)) }
+        ensures told { IfOk result (λ dropped. (arrived : List Captured) (g : List LabelledEvent) (a : Captured)
+            → IsGoing (D.view discipline.old) arrived words.old self.old g
+            → Offers (D.view discipline.old).policy self.old.clock.rate words.old.seed arrived g a packet.now placed
+            → dropped ≡ drop_of ((D.view discipline.old).policy.answer (unlabelled g) words.old (bare_arrival a)).verdict packet.now) }
         ensures rate { self.new.clock.rate ≡ self.old.clock.rate }
         ensures seed { words.new.seed ≡ words.old.seed }
-        ensures policy { D.policy discipline.new ≡ D.policy discipline.old }
-        ensures limits { D.limits discipline.new ≡ D.limits discipline.old }
-        ensures link_rate { D.link_rate discipline.new ≡ D.link_rate discipline.old }
+        ensures kind { SameKind (D.view discipline.old) (D.view discipline.new) }
     {
         let ticket = self.pool.next();
         let Placed { class, prec } = placed;
         let verdict = discipline.offer(ticket, class, packet.len, prec, packet.at, words);
-        match settle(&mut self.pool, packet, verdict, room) {
+        match admit(&mut self.pool, packet, verdict, room) {
             Ok(dropped) => {
                 self.latest = packet.at;
                 self.totals.arrived += 1;
-                self.totals.dropped += lost(&dropped);
+                self.totals.dropped += drop_count(&dropped);
                 Ok(dropped)
             }
             Err(_) => Err(NoMemory),
@@ -110,21 +110,19 @@ impl Progress {
 
     /// The next event of the play, given the moment of the next arrival, if there is one: the offer of that arrival if it comes up to
     /// the least moment at which a class may send, else the sending at that moment, which is made if it ends before the clock does.
-    /// Takes no memory, and one division.
+    /// Does not allocate; one division.
     #[inline(always)]
     pub fn turn<D: Discipline>(&mut self, discipline: &mut D, arrival: Option<u64>) -> Turn
-        requires going { (arrived : List Captured) × (w : DrawnWords) × (g : List Happened) × IsGoing (D.policy discipline.old) (D.stands discipline.old) (D.lists discipline.old) (D.limits discipline.old) (D.link_rate discipline.old) arrived w self.old g }
-        ensures turned { (arrived : List Captured) (w : DrawnWords) (g : List Happened)
-            → IsGoing (D.policy discipline.old) (D.stands discipline.old) (D.lists discipline.old) (D.limits discipline.old) (D.link_rate discipline.old) arrived w self.old g → arrival ≡ arrives arrived g
-            → ComesNext (D.policy discipline.old) self.old.clock.rate w.seed arrived g result
-            × IsGoing (D.policy discipline.new) (D.stands discipline.new) (D.lists discipline.new) (D.limits discipline.new) (D.link_rate discipline.new) arrived w self.new (turned result g) }
+        requires going { (arrived : List Captured) × (w : DrawnWords) × (g : List LabelledEvent) × IsGoing (D.view discipline.old) arrived w self.old g }
+        ensures turned { (arrived : List Captured) (w : DrawnWords) (g : List LabelledEvent)
+            → IsGoing (D.view discipline.old) arrived w self.old g → arrival ≡ arrives arrived g
+            → ComesNext (D.view discipline.old).policy self.old.clock.rate w.seed arrived g result
+            × IsGoing (D.view discipline.new) arrived w self.new (turned result g) }
         ensures offers { result ≡ Turn.Offer → IsSome arrival }
         ensures number { (d : Departure) → result ≡ Turn.Send d → (1 ≤ d.packet.number) × (d.packet.number ≤ self.new.totals.arrived) }
         ensures in_time { (d : Departure) → result ≡ Turn.Send d → d.end < 2 ^ 32 * 10 ^ 9 }
         ensures rate { self.new.clock.rate ≡ self.old.clock.rate }
-        ensures policy { D.policy discipline.new ≡ D.policy discipline.old }
-        ensures limits { D.limits discipline.new ≡ D.limits discipline.old }
-        ensures link_rate { D.link_rate discipline.new ≡ D.link_rate discipline.old }
+        ensures kind { SameKind (D.view discipline.old) (D.view discipline.new) }
     {
         let moment = self.clock.free().max(self.latest);
         let sending = match next_step(discipline, &self.clock, moment, arrival) {
@@ -149,7 +147,7 @@ impl Progress {
 }
 
 // How many packets were dropped: one or none.
-fn lost(dropped: &Option<Dropped>) -> u64
+fn drop_count(dropped: &Option<Dropped>) -> u64
     ensures { result ≡ (if is_some dropped.now then 1 else 0) }
 {
     match dropped {
@@ -160,7 +158,7 @@ fn lost(dropped: &Option<Dropped>) -> u64
 
 // Puts a packet into the pool, marked or not, or tells of its drop, by its verdict.
 #[inline(always)]
-fn settle(
+fn admit(
     pool: &mut Pool,
     packet: &LentPacket<'_>,
     verdict: Verdict,

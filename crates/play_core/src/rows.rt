@@ -9,7 +9,8 @@ ghost use Rattle.play_core.specs.declared.turn.LentPacket.{LentPacket};
 pub fn worked_packets()
     ensures kept { (p : LentPacket) → p.number ≡ 1 → p.at ≡ 8 → p.len ≡ 60 → p.bytes.now ≡ 6 ∷ 7 ∷ []
         → packet_of_lent p ≡ record { number = 1; at = 8; len = 60; bytes = 6 ∷ 7 ∷ [] } }
-    ensures dropped { (p : LentPacket) → p.number ≡ 1 → p.at ≡ 8 → p.len ≡ 60 → drop_of (Drop Early) p ≡ Some (record { number = 1; at = 8; len = 60; reason = Early }) }
+    ensures dropped { (p : LentPacket) → p.number ≡ 1 → p.at ≡ 8 → p.len ≡ 60
+        → drop_of (Drop Early) p ≡ Some (record { number = 1; at = 8; len = 60; reason = Early }) }
     ensures not_dropped { (p : LentPacket) → drop_of Keep p ≡ None }
     ensures marked { (p : LentPacket) → drop_of Mark p ≡ None }
 {}

@@ -1,8 +1,9 @@
 // What comes next in a play, as a discipline answers it.
 ghost use Rattle.std.specs.Prelude.{◌≡◌, ◌≤◌, ◌<◌, ◌*◌, ◌^◌, ℕ, IsSome, List, Some, slice_get};
-ghost use Rattle.altq_model.specs.History.{Happened, bare, labels};
+ghost use Rattle.altq_model.specs.History.{LabelledEvent, unlabelled, labels};
 ghost use Rattle.altq_model.specs.Link.{end_of};
 ghost use Rattle.discipline.specs.Laws.{HasRate, Sends};
+ghost use Rattle.discipline.specs.View.{Unchanged};
 ghost use Rattle.discipline.specs.Moments.{IsChoice};
 ghost use Rattle.play_core.specs.Steps.{IsSentAt, IsStep, comes_by, step_at};
 
@@ -63,28 +64,22 @@ fn send_at(clock: &LinkClock, start: u64, ticket: Ticket, class: u32, len: u32, 
 fn what_is_sent<D: Discipline>(discipline: &mut D, clock: &LinkClock, till: u64) -> Step
     requires free { clock.now.link.free ≤ till }
     requires positive { 0 < clock.now.rate }
-    requires rate { HasRate (D.link_rate discipline.old) clock.now.rate }
-    requires later { D.moment discipline.old ≤ till }
-    requires after { D.ended discipline.old ≤ clock.now.link.free }
-    requires sends { Sends (D.due discipline.old clock.now till) }
-    ensures sent { (h : List Happened) → D.stands discipline.old h → IsChoice till clock.now (bare h) →
-        IsSentAt (D.policy discipline.old) clock.now till (bare h) result }
+    requires rate { HasRate (D.view discipline.old).link_rate clock.now.rate }
+    requires later { (D.view discipline.old).moment ≤ till }
+    requires after { (D.view discipline.old).ended ≤ clock.now.link.free }
+    requires sends { Sends ((D.view discipline.old).due clock.now till) }
+    ensures sent { (h : List LabelledEvent) → (D.view discipline.old).represents h → IsChoice till clock.now (unlabelled h) →
+        IsSentAt (D.view discipline.old).policy clock.now till (unlabelled h) result }
     ensures due { (s : Sending) → result ≡ Step.Send s →
-        D.due discipline.new clock.now s.start ≡ Pick.Send s.ticket s.class s.len s.rule }
+        (D.view discipline.new).due clock.now s.start ≡ Pick.Send s.ticket s.class s.len s.rule }
     ensures offers_none { result ≡ Step.Offer → ⊥ }
     ensures starts { (s : Sending) → result ≡ Step.Send s → s.start ≡ till }
     ensures soon { (s : Sending) → result ≡ Step.Send s → s.start < 2 ^ 63 }
     ensures ends { (s : Sending) → result ≡ Step.Send s → s.end ≡ end_of clock.now.rate clock.now.link s.start s.len }
     ensures early { (s : Sending) → result ≡ Step.Send s → s.end < 2 ^ 32 * 10 ^ 9 }
-    ensures ticket { (h : List Happened) → D.stands discipline.old h → (s : Sending) → result ≡ Step.Send s →
+    ensures ticket { (h : List LabelledEvent) → (D.view discipline.old).represents h → (s : Sending) → result ≡ Step.Send s →
         slice_get (labels s.class h) 0 ≡ Some s.ticket.0 }
-    ensures histories { (h : List Happened) → D.stands discipline.old h → D.stands discipline.new h }
-    ensures lists { (c : ℕ) → D.lists discipline.new c ≡ D.lists discipline.old c }
-    ensures limits { D.limits discipline.new ≡ D.limits discipline.old }
-    ensures policy { D.policy discipline.new ≡ D.policy discipline.old }
-    ensures rate { D.link_rate discipline.new ≡ D.link_rate discipline.old }
-    ensures moment { D.moment discipline.new ≡ D.moment discipline.old }
-    ensures ended { D.ended discipline.new ≡ D.ended discipline.old }
+    ensures unchanged { Unchanged (D.view discipline.old) (D.view discipline.new) }
 {
     if till >= CLOCK_END {
         return Step::Late;
@@ -102,7 +97,8 @@ fn what_is_sent<D: Discipline>(discipline: &mut D, clock: &LinkClock, till: u64)
 
 // What comes next, given the next arrival, in nanoseconds, if there is one: an arrival up to the least moment at which a class
 // may send is offered first. `moment` is no earlier than the last end nor than any arrival that was offered. The discipline is
-// asked again where it waits. Takes no memory.
+// asked again where it waits. Does not allocate.
+#[tactic(auto, using(discipline::proofs::ViewLaws::unchanged_refl, discipline::proofs::ViewLaws::unchanged_trans))]
 #[inline(always)]
 pub(crate) fn next_step<D: Discipline>(
     discipline: &mut D,
@@ -113,27 +109,21 @@ pub(crate) fn next_step<D: Discipline>(
     requires free { clock.now.link.free ≤ moment }
     requires early { moment < 2 ^ 63 }
     requires positive { 0 < clock.now.rate }
-    requires rate { HasRate (D.link_rate discipline.old) clock.now.rate }
-    requires later { D.moment discipline.old ≤ moment }
-    requires after { D.ended discipline.old ≤ clock.now.link.free }
-    ensures step { (h : List Happened) → D.stands discipline.old h → IsChoice moment clock.now (bare h) →
-        IsStep (D.policy discipline.old) clock.now moment (bare h) arrival result }
+    requires rate { HasRate (D.view discipline.old).link_rate clock.now.rate }
+    requires later { (D.view discipline.old).moment ≤ moment }
+    requires after { (D.view discipline.old).ended ≤ clock.now.link.free }
+    ensures step { (h : List LabelledEvent) → (D.view discipline.old).represents h → IsChoice moment clock.now (unlabelled h) →
+        IsStep (D.view discipline.old).policy clock.now moment (unlabelled h) arrival result }
     ensures due { (s : Sending) → result ≡ Step.Send s →
-        D.due discipline.new clock.now s.start ≡ Pick.Send s.ticket s.class s.len s.rule }
+        (D.view discipline.new).due clock.now s.start ≡ Pick.Send s.ticket s.class s.len s.rule }
     ensures offers { result ≡ Step.Offer → IsSome arrival }
     ensures starts { (s : Sending) → result ≡ Step.Send s → moment ≤ s.start }
     ensures soon { (s : Sending) → result ≡ Step.Send s → s.start < 2 ^ 63 }
     ensures ends { (s : Sending) → result ≡ Step.Send s → s.end ≡ end_of clock.now.rate clock.now.link s.start s.len }
     ensures early { (s : Sending) → result ≡ Step.Send s → s.end < 2 ^ 32 * 10 ^ 9 }
-    ensures ticket { (h : List Happened) → D.stands discipline.old h → (s : Sending) → result ≡ Step.Send s →
+    ensures ticket { (h : List LabelledEvent) → (D.view discipline.old).represents h → (s : Sending) → result ≡ Step.Send s →
         slice_get (labels s.class h) 0 ≡ Some s.ticket.0 }
-    ensures histories { (h : List Happened) → D.stands discipline.old h → D.stands discipline.new h }
-    ensures lists { (c : ℕ) → D.lists discipline.new c ≡ D.lists discipline.old c }
-    ensures limits { D.limits discipline.new ≡ D.limits discipline.old }
-    ensures policy { D.policy discipline.new ≡ D.policy discipline.old }
-    ensures rate { D.link_rate discipline.new ≡ D.link_rate discipline.old }
-    ensures moment { D.moment discipline.new ≡ D.moment discipline.old }
-    ensures ended { D.ended discipline.new ≡ D.ended discipline.old }
+    ensures unchanged { Unchanged (D.view discipline.old) (D.view discipline.new) }
 {
     // No class may send before this moment, so the discipline need not be asked.
     if comes_by(arrival, moment) {

@@ -1,7 +1,7 @@
 -- Each file of a play has the part of its name, and no two have one part.
 use Rattle.std.proofs.Common.{◌≡◌, ◌≤◌, ◌<◌, ◌+◌, ◌∙◌, ◌⊎◌, ℕ, List, None, Some, ap, sym, refl, subst, inl, inr, arith}
 use Rattle.std.specs.Prelude.{IsTrue}
-use Rattle.play_base.specs.View.{View, Created, IsNew, NoneAppears, Unchanged}
+use Rattle.play_base.specs.View.{View, Created, IsNewFile, NoneAppears, Unchanged}
 use Rattle.play_base.specs.declared.trouble.Trouble.{Trouble}
 use Rattle.play_base.specs.declared.trouble.Trouble.TheVariants as trouble
 use Rattle.play_loop.specs.declared.fault.Output.TheVariants as output
@@ -35,12 +35,12 @@ named_same a b c n end h none part name = record {
     at f p e = there_then b c f p none part e (there_or_not (b.part f))
 
 -- one more: a file that is new is the one that came to be, or one of those before
-came : (a b c : View) (end : ℕ) (name : List ℕ) (file f p : ℕ) → IsNew b c end name file → ((f p : ℕ) → b.part f ≡ Some p → c.part f ≡ Some p) → c.part f ≡ Some p
+came : (a b c : View) (end : ℕ) (name : List ℕ) (file f p : ℕ) → IsNewFile b c end name file → ((f p : ℕ) → b.part f ≡ Some p → c.part f ≡ Some p) → c.part f ≡ Some p
     → (b.part f ≡ None) ⊎ ((q : ℕ) × (b.part f ≡ Some q)) → ((p ≡ end) × (f ≡ file)) ⊎ (b.part f ≡ Some p)
 came a b c end name file f p x part e (inl m) = inl (new_part b c end name file f p x m e)
 came a b c end name file f p x part e (inr m) = inr (m.1 ∙ ap (λ (q : ℕ). Some q) (same_part m.0 p (sym (part f m.0 m.1) ∙ e)))
 
-pub named_more : (a b c : View) (n : Names) (end : ℕ) (name : List ℕ) (file : ℕ) → AreNamed a b n end → IsNew b c end name file
+pub named_more : (a b c : View) (n : Names) (end : ℕ) (name : List ℕ) (file : ℕ) → AreNamed a b n end → IsNewFile b c end name file
     → ((f p : ℕ) → b.part f ≡ Some p → c.part f ≡ Some p) → ((f p : ℕ) → b.part f ≡ Some p → c.name f ≡ b.name f) → b.tells ≡ a.tells
     → IsNamed n end name → AreNamed a c n (end + 1)
 named_more a b c n end name file h x part named tells is = record {

@@ -2,7 +2,7 @@
 use Rattle.std.proofs.Common.{◌≡◌, ◌≢◌, ◌≤◌, ◌<◌, ◌+◌, ◌∙◌, ◌⊎◌, ℕ, Bool, List, [], None, Some, ap, ap₂, sym, refl, subst, inl, inr, arith, true, false, length}
 use Rattle.std.specs.Prelude.{IsTrue}
 use Rattle.std.specs.declared.option.Option.{Option}
-use Rattle.play_base.specs.View.{View, Any, Unchanged, IsMissed, IsNew, Opened, Created, Rose, Keeps, NoneAppears}
+use Rattle.play_base.specs.View.{View, Everything, Unchanged, IsMissed, IsNewFile, Opened, Created, Rose, Keeps, NoneAppears}
 use Rattle.play_base.proofs.HoldsLaws.{holds_beside_created, holds_created}
 use Rattle.play_base.proofs.ViewLaws.{is_some_of, keeps_refl, keeps_trans, keeps_fewer, opened_then, rose_later}
 use Rattle.play_base.specs.Holds.{HoldsAt}
@@ -32,7 +32,7 @@ parts_none a = record {
   each = λ p l m. absurd (omega (arith, l, m));
 }
 
-only_more : (a b c : View) (end : ℕ) (name : List ℕ) (file f p : ℕ) → HaveParts a b end → IsNew b c end name file
+only_more : (a b c : View) (end : ℕ) (name : List ℕ) (file f p : ℕ) → HaveParts a b end → IsNewFile b c end name file
     → ((f p : ℕ) → b.part f ≡ Some p → c.part f ≡ Some p) → a.part f ≡ None → c.part f ≡ Some p
     → (b.part f ≡ None) ⊎ ((q : ℕ) × (b.part f ≡ Some q)) → (1 ≤ p) × (p < end + 1)
 only_more a b c end name file f p h x k fresh e (inl n) =
@@ -41,7 +41,7 @@ only_more a b c end name file f p h x k fresh e (inr m) =
     let same : p ≡ m.0 = same_part p m.0 (sym e ∙ k f m.0 m.1) in
     let y = h.only f m.0 fresh m.1 in (omega (arith, y.0, same), omega (arith, y.1, same))
 
-each_more : (a b c : View) (end : ℕ) (name : List ℕ) (file p : ℕ) → HaveParts a b end → IsNew b c end name file
+each_more : (a b c : View) (end : ℕ) (name : List ℕ) (file p : ℕ) → HaveParts a b end → IsNewFile b c end name file
     → ((f p : ℕ) → b.part f ≡ Some p → c.part f ≡ Some p) → 2 ≤ p → (p < end) ⊎ (end ≤ p) → p < end + 1
     → (f : ℕ) × (a.part f ≡ None) × (c.part f ≡ Some p)
 each_more a b c end name file p h x k l (inl m) u = let y = h.each p l m in (y.0, y.1, k y.0 p y.2)
@@ -53,7 +53,7 @@ each_more a b c end name file p h x k l (inr m) u =
     was o (inl e) = e
     was o (inr e) = absurd (none_some e.0 (sym x.fresh ∙ h.kept file e.0 e.1))
 
-pub parts_more : (a b c : View) (end : ℕ) (name : List ℕ) (file : ℕ) → HaveParts a b end → IsNew b c end name file
+pub parts_more : (a b c : View) (end : ℕ) (name : List ℕ) (file : ℕ) → HaveParts a b end → IsNewFile b c end name file
     → ((f p : ℕ) → b.part f ≡ Some p → c.part f ≡ Some p) → end < 6 → HaveParts a c (end + 1)
 parts_more a b c end name file h x k l = record {
   some = omega (arith, h.some);
@@ -81,7 +81,7 @@ parts_same a b c end h n k = record {
         let y = h.only f m.0 fresh m.1 in (omega (arith, y.0, same), omega (arith, y.1, same))
 
 not_config_more : (a b c : View) (end part : ℕ) (name : List ℕ) (file : ℕ) → HaveParts a b end → 2 ≤ part
-    → ((f p : ℕ) → a.part f ≡ None → b.part f ≡ Some p → 2 ≤ p) → IsNew b c part name file
+    → ((f p : ℕ) → a.part f ≡ None → b.part f ≡ Some p → 2 ≤ p) → IsNewFile b c part name file
     → ((f p : ℕ) → b.part f ≡ Some p → c.part f ≡ Some p)
     → (f p : ℕ) → a.part f ≡ None → c.part f ≡ Some p → (b.part f ≡ None) ⊎ ((q : ℕ) × (b.part f ≡ Some q)) → 2 ≤ p
 not_config_more a b c end part name file h l n x k f p fresh e (inl m) =
@@ -118,7 +118,7 @@ far_unchanged a b c dep fat stats h x = record {
   departures_empty = λ l t. x.keeps.bytes dep tt ∙ h.departures_empty l t;
   fates_empty = λ l t. x.keeps.bytes fat tt ∙ h.fates_empty l t;
   stats_empty = λ l t. x.keeps.bytes stats tt ∙ h.stats_empty l t;
-  keeps = keeps_trans _ _ a b c h.keeps (keeps_fewer Any _ Any _ b c (λ n k. tt) (λ f k. tt) x.keeps);
+  keeps = keeps_trans _ _ a b c h.keeps (keeps_fewer Everything _ Everything _ b c (λ n k. tt) (λ f k. tt) x.keeps);
   said = x.said ∙ h.said;
 }
   where
@@ -140,7 +140,7 @@ far_opened a b dep fat stats name file x = record {
   departures_empty = λ l. absurd (omega (arith, l));
   fates_empty = λ l. absurd (omega (arith, l));
   stats_empty = λ l. absurd (omega (arith, l));
-  keeps = keeps_fewer Any _ Any _ a b (λ n k. tt) (λ f k. tt) x.keeps;
+  keeps = keeps_fewer Everything _ Everything _ a b (λ n k. tt) (λ f k. tt) x.keeps;
   said = x.is_new.said;
 }
 
@@ -314,7 +314,7 @@ pub unopened : (a b : View) → Unchanged a b → Untouched a b 3
 unopened a b x = λ f fresh e. none_some 3 (sym (x.none f fresh) ∙ e)
 
 -- the arrivals are opened, and their first bytes taken
-pub opened_given : (a p g : View) (name : List ℕ) (file : ℕ) → Opened a p 2 name file → Keeps Any (λ f. f ≢ file) p g → NoneAppears p g → g.said ≡ p.said
+pub opened_given : (a p g : View) (name : List ℕ) (file : ℕ) → Opened a p 2 name file → Keeps Everything (λ f. f ≢ file) p g → NoneAppears p g → g.said ≡ p.said
     → IsOpened a g name file
 opened_given a p g name file x k none said = record {
   is_new = record {
@@ -324,11 +324,11 @@ opened_given a p g name file x k none said = record {
     none = λ f d h. none f (x.is_new.none f d h);
     said = said ∙ x.is_new.said;
   };
-  keeps = opened_then Any a p g 2 name file x k;
+  keeps = opened_then Everything a p g 2 name file x k;
   there = λ t. (x.left t).0;
 }
 
-untouched_new : (a g : View) (name : List ℕ) (file : ℕ) → IsNew a g 2 name file → Untouched a g 3
+untouched_new : (a g : View) (name : List ℕ) (file : ℕ) → IsNewFile a g 2 name file → Untouched a g 3
 untouched_new a g name file x = λ f fresh e. let y = (new_part a g 2 name file f 3 x fresh e).0 in omega (arith, y)
 
 -- why they cannot be read

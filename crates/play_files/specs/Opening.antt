@@ -1,6 +1,6 @@
 -- The files of a play: which are opened and created, and what stands where one of these fails.
 use Rattle.std.specs.Prelude.{◌≡◌, ◌≢◌, ◌≤◌, ◌<◌, ◌⊎◌, ℕ, List, [], None, Some, IsTrue, IsSome, true}
-use Rattle.play_base.specs.View.{View, Keeps, Rose, Any, IsNew}
+use Rattle.play_base.specs.View.{View, Keeps, Rose, Everything, IsNewFile}
 use Rattle.play_loop.specs.declared.fault.Opened.{Opened}
 use Rattle.play_loop.specs.declared.fault.Output.{Output}
 use Rattle.play_loop.specs.declared.fault.Output.TheVariants as output
@@ -83,7 +83,8 @@ ArrivalsCauses old new arrivals (Pcapng block) = Untouched old new parts.departu
 ArrivalsCauses old new arrivals (Play (play.Capture damage)) = ⊥
 ArrivalsCauses old new arrivals (Play play.Read) = Untouched old new parts.departures × CannotRead old new parts.arrivals arrivals
 ArrivalsCauses old new arrivals (Play (play.Write output)) = ⊥
-ArrivalsCauses old new arrivals (Play (play.Limit limit.Capture)) = Untouched old new parts.departures × (IsTrue old.tells → GivesNoCapture old arrivals ng.Limit)
+ArrivalsCauses old new arrivals (Play (play.Limit limit.Capture)) = Untouched old new parts.departures × (IsTrue old.tells
+    → GivesNoCapture old arrivals ng.Limit)
 ArrivalsCauses old new arrivals (Play (play.Limit limit.Clock)) = ⊥
 ArrivalsCauses old new arrivals (Play play.NoMemory) = Unit {0}
 
@@ -101,8 +102,8 @@ LeavesOutStats old new f = f ≡ play.Write output.Statistics → Untouched old 
 
 -- the file is new, of part 2 and of this name, which is there
 pub record IsOpened (old new : View) (arrivals : List ℕ) (file : ℕ) : Type 0 where
-  pub is_new : IsNew old new 2 arrivals file
-  pub keeps : Keeps Any Any old new
+  pub is_new : IsNewFile old new 2 arrivals file
+  pub keeps : Keeps Everything Everything old new
   pub there : IsTrue old.tells → IsSome (old.bytes arrivals)
 
 -- the four files are there, new, under their parts and names; the arrivals' name is there

@@ -1,7 +1,7 @@
 // Opening the arrivals, and creating the outputs of a play.
 ghost use Rattle.std.specs.Prelude.{◌≡◌, ◌≤◌, ℕ, true, false, List, [], Some, length, IsTrue, IfOk, IfErr, OnOk};
 ghost use Rattle.arrivals_front.specs.Given.{Follows, is_pcapng};
-ghost use Rattle.play_base.specs.View.{Any, Keeps, SameCounts, View};
+ghost use Rattle.play_base.specs.View.{Everything, Keeps, SameCounts, View};
 ghost use Rattle.play_words.specs.Words.{AreDistinct};
 ghost use Rattle.command_base.specs.Names.{Names, names_read};
 ghost use Rattle.play_files.specs.Opening.{AreNamed, AreOpened, ArrivalsCauses, IsOpened, LeavesOutStats, OpenedFar, OutputCauses};
@@ -36,7 +36,7 @@ pub fn open_arrivals<F: Files>(
     ensures why { IfErr result (ArrivalsCauses (F.view files.old) (F.view files.new) name.now) }
     ensures named { (n : Names) → n.arrivals ≡ name.now → AreNamed (F.view files.old) (F.view files.new) n 6 }
     ensures far { (dep fat stats : List ℕ) → OpenedFar (F.view files.old) (F.view files.new) dep fat stats }
-    ensures keeps { Keeps Any Any (F.view files.old) (F.view files.new) }
+    ensures keeps { Keeps Everything Everything (F.view files.old) (F.view files.new) }
     ensures no_fault { OnOk result (SameCounts (F.view files.old) (F.view files.new)) }
 {
     let file = match files.open(part::ARRIVALS, name) {
@@ -66,7 +66,7 @@ pub fn open_classic<F: Files>(
     ensures why { IfErr result (λ fault. ArrivalsCauses (F.view files.old) (F.view files.new) name.now (Unplayed.Play fault)) }
     ensures named { (n : Names) → n.arrivals ≡ name.now → AreNamed (F.view files.old) (F.view files.new) n 6 }
     ensures far { (dep fat stats : List ℕ) → OpenedFar (F.view files.old) (F.view files.new) dep fat stats }
-    ensures keeps { Keeps Any Any (F.view files.old) (F.view files.new) }
+    ensures keeps { Keeps Everything Everything (F.view files.old) (F.view files.new) }
     ensures no_fault { OnOk result (SameCounts (F.view files.old) (F.view files.new)) }
 {
     match files.open(part::ARRIVALS, name) {

@@ -3,7 +3,7 @@
 use std::alloc::{AllocError, Global};
 
 /// The version of the program. CHANGELOG.md has what each brought.
-pub const VERSION: &str = "0.1";
+pub const VERSION: &str = "0.2";
 
 // The lines behind the first.
 const LINES: [&str; 6] = [

@@ -3,7 +3,7 @@
 use crate::fault::{fault_text, word_at};
 use crate::line::{add_made, end_of, line_shown, logical_line, physical, words_of};
 use conf_lines::ConfKind;
-use line_text::{Word, next_line};
+use line_text::{Token, next_line};
 use printable_text::{shown, shown_byte};
 use std::alloc::{AllocError, Global};
 
@@ -65,7 +65,7 @@ fn interface_of<'a>(alloc: Global, bytes: &'a [u8]) -> Option<&'a [u8]> {
 }
 
 // The name of the interface that words declare.
-fn declared<'a>(words: &[Word<'a>]) -> Option<&'a [u8]> {
+fn declared<'a>(words: &[Token<'a>]) -> Option<&'a [u8]> {
     if word_at(words, 0) == b"interface".as_slice() {
         Some(word_at(words, 1))
     } else {
@@ -146,12 +146,12 @@ pub(crate) fn is_one_of(word: &[u8], names: &[&str]) -> bool {
 }
 
 // Of which other program a line is, by its first word.
-fn foreign(words: &[Word]) -> &'static str {
+fn foreign(words: &[Token]) -> &'static str {
     let first = word_at(words, 0);
     if is_one_of(first, &OF_PF) {
-        " this is pf.conf: see docs/PF-TC.md"
+        " this is pf.conf: see docs/operators/PF-TC.md"
     } else if is_one_of(first, &OF_TC) {
-        " this is of tc: see docs/PF-TC.md"
+        " this is of tc: see docs/operators/PF-TC.md"
     } else {
         ""
     }
@@ -175,7 +175,7 @@ fn add_source(
     alloc: Global,
     text: &mut String,
     bytes: &[u8],
-    words: &[Word],
+    words: &[Token],
     at: usize,
 ) -> Result<(), AllocError> {
     let length = word_at(words, at).len();
@@ -226,7 +226,7 @@ fn carets(alloc: Global, column: usize, length: usize) -> Result<String, AllocEr
 }
 
 // The word at fault as it is shown, with a colon behind it; no text where none is at fault or one is missing.
-fn word_shown(alloc: Global, words: &[Word], at: Option<usize>) -> Result<String, AllocError> {
+fn word_shown(alloc: Global, words: &[Token], at: Option<usize>) -> Result<String, AllocError> {
     match words.get(at.unwrap_or(words.len())) {
         Some(word) => {
             let word = word.parts;
@@ -254,7 +254,7 @@ fn add_fault(
     text: &mut String,
     place: (&str, u64),
     kind: ConfKind,
-    words: &[Word],
+    words: &[Token],
     at: Option<usize>,
 ) -> Result<(), AllocError> {
     let word = word_shown(alloc, words, at)?;
@@ -271,7 +271,7 @@ fn add_hint(
     place: ConfAt,
     kind: ConfKind,
     bytes: &[u8],
-    words: &[Word],
+    words: &[Token],
 ) -> Result<(), AllocError> {
     let named = (name, place.line);
     if place.word == 0 {

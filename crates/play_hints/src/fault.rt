@@ -2,11 +2,11 @@
 
 use crate::options::{Wanted, want_at};
 use conf_lines::ConfKind;
-use line_text::Word;
+use line_text::Token;
 use std::alloc::{AllocError, Global};
 
 // The word at a place of a line, or no bytes.
-pub(crate) fn word_at<'a>(words: &[Word<'a>], at: usize) -> &'a [u8] {
+pub(crate) fn word_at<'a>(words: &[Token<'a>], at: usize) -> &'a [u8] {
     match words.get(at) {
         Some(word) => word.parts,
         None => b"",
@@ -66,7 +66,7 @@ fn begins(statement: &Statement, first: &[u8], second: &[u8]) -> bool {
 }
 
 // The form of the statement that a line begins.
-fn form(words: &[Word]) -> &'static str {
+fn form(words: &[Token]) -> &'static str {
     let first = word_at(words, 0);
     let second = word_at(words, 1);
     for statement in &FORMS {
@@ -78,7 +78,7 @@ fn form(words: &[Word]) -> &'static str {
 }
 
 // What is wrong with a word that stands where none of its kind may.
-fn unknown(alloc: Global, words: &[Word], at: usize) -> Result<String, AllocError> {
+fn unknown(alloc: Global, words: &[Token], at: usize) -> Result<String, AllocError> {
     let form = form(words);
     let fault = if at == 0 {
         "no statement"
@@ -89,7 +89,7 @@ fn unknown(alloc: Global, words: &[Word], at: usize) -> Result<String, AllocErro
 }
 
 // What is wrong with a number.
-fn bad_number(alloc: Global, words: &[Word], at: usize) -> Result<String, AllocError> {
+fn bad_number(alloc: Global, words: &[Token], at: usize) -> Result<String, AllocError> {
     match want_at(words, at) {
         Wanted::Rate(_, _) => { String::from_str(alloc, "a rate is digits and K, M or G, as 10M") }
         Wanted::Whole(low, high) => {
@@ -103,7 +103,7 @@ fn bad_number(alloc: Global, words: &[Word], at: usize) -> Result<String, AllocE
 }
 
 // What is wrong with a rate out of its range.
-fn rate_range(alloc: Global, words: &[Word], at: usize) -> Result<String, AllocError> {
+fn rate_range(alloc: Global, words: &[Token], at: usize) -> Result<String, AllocError> {
     match want_at(words, at) {
         Wanted::Rate(low, high) => {
             format!(in alloc; "out of range: {low} to {high} bits per second")
@@ -116,7 +116,7 @@ fn rate_range(alloc: Global, words: &[Word], at: usize) -> Result<String, AllocE
 }
 
 // What is wrong with an address.
-fn bad_address(alloc: Global, words: &[Word]) -> Result<String, AllocError> {
+fn bad_address(alloc: Global, words: &[Token]) -> Result<String, AllocError> {
     let text = if word_at(words, 0) == b"filter6".as_slice() {
         "no address: one of IPv6, as fe80::1/64, or 0 for any"
     } else {
@@ -130,7 +130,7 @@ fn bad_byte(alloc: Global, word: &[u8]) -> Result<String, AllocError> {
     let text = if word.iter().all(|byte| *byte > 32 && *byte < 127) {
         "no name: 1 to 64 letters, digits and _ - . : /"
     } else {
-        "a byte that is no ASCII character: letters, digits and _ - . : /"
+        "a byte that is no printable ASCII character: letters, digits and _ - . : /"
     };
     String::from_str(alloc, text)
 }
@@ -166,7 +166,7 @@ fn plain(kind: ConfKind) -> &'static str {
 }
 
 // What is wrong with a class of the other kind.
-fn other_kind(words: &[Word]) -> &'static str {
+fn other_kind(words: &[Token]) -> &'static str {
     if word_at(words, 1) == b"cbq".as_slice() {
         "an interface of hfsc: class hfsc"
     } else {
@@ -178,7 +178,7 @@ fn other_kind(words: &[Word]) -> &'static str {
 pub(crate) fn fault_text(
     alloc: Global,
     kind: ConfKind,
-    words: &[Word],
+    words: &[Token],
     at: usize,
 ) -> Result<String, AllocError> {
     match kind {

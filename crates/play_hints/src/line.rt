@@ -1,6 +1,6 @@
 // The logical line at fault, where a word stands in it, and lines as they are shown.
 
-use line_text::{Line, Word, next_line, words};
+use line_text::{Line, Token, next_line, words};
 use printable_text::{add_line, one_line};
 use std::alloc::{AllocError, Global};
 
@@ -26,7 +26,7 @@ fn line_feeds(text: &[u8]) -> u64 {
 }
 
 // The words of a logical line; none where it is too long, or memory is short.
-pub(crate) fn words_of(alloc: Global, bytes: &[u8]) -> Vec<Word<'_>> {
+pub(crate) fn words_of(alloc: Global, bytes: &[u8]) -> Vec<Token<'_>> {
     let line = Line {
         number: 1,
         from: 0,
@@ -49,7 +49,7 @@ fn find(bytes: &[u8], from: usize, word: &[u8]) -> Option<usize> {
 }
 
 // Where the first words of a line end.
-pub(crate) fn end_of(bytes: &[u8], words: &[Word]) -> Option<usize> {
+pub(crate) fn end_of(bytes: &[u8], words: &[Token]) -> Option<usize> {
     let mut at = 0usize;
     for word in words {
         at = find(bytes, at, word.parts)?.saturating_add(word.parts.len());

@@ -1,7 +1,7 @@
 // Which option a word belongs to, by the table of options.
 
 use conf_lines::{Key, MOST_AF, MOST_BEND, MOST_BURST, MOST_RATE, Slots};
-use line_text::{Word, rate};
+use line_text::{Token, rate};
 
 // The options with something behind them.
 const KEYS: [Key; 23] = [
@@ -39,7 +39,7 @@ pub(crate) enum Wanted {
 }
 
 // The option of a word.
-fn key_of(word: &Word) -> Option<Key> {
+fn key_of(word: &Token) -> Option<Key> {
     for key in &KEYS {
         if key.word().as_bytes() == word.parts {
             return Some(*key);
@@ -65,7 +65,7 @@ fn behind(key: Key, back: usize) -> Option<Wanted> {
 }
 
 // The peak rate of a meter of two rates, whose committed rate stands at this place.
-fn peak_rate(words: &[Word], at: usize) -> u64 {
+fn peak_rate(words: &[Token], at: usize) -> u64 {
     match words.get(at.wrapping_sub(2)) {
         Some(word) => rate(word).unwrap_or(MOST_RATE),
         None => MOST_RATE,
@@ -73,7 +73,7 @@ fn peak_rate(words: &[Word], at: usize) -> u64 {
 }
 
 // What is wanted at the word at a place of a line, by the nearest option before it.
-pub(crate) fn want_at(words: &[Word], at: usize) -> Wanted {
+pub(crate) fn want_at(words: &[Token], at: usize) -> Wanted {
     for back in 1usize..=5 {
         let key = match words.get(at.wrapping_sub(back)) {
             Some(word) => key_of(word),

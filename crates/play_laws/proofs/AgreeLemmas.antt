@@ -2,7 +2,7 @@
 use Rattle.std.proofs.Common.{◌≡◌, ◌≤◌, ◌<◌, ◌⊎◌, inl, inr, ℕ, max, Bool, true, false, cond, List, [], ◌∷◌, ◌++◌, Some, refl, ap, sym, subst, arith}
 use Rattle.std.specs.Prelude.{slice_get, nat_lt, ◌==◌, ◌&&◌, ◌↔◌}
 use Rattle.std.proofs.lemmas.Bool.{ltb-true, ltb-false}
-use Rattle.altq_model.specs.History.{Arrival, Answer, DrawnWords, Event, Offered, Sent, Happened, bare, drawn, offered, head, waiting, is_kept}
+use Rattle.altq_model.specs.History.{Arrival, Answer, DrawnWords, Event, Offered, Sent, LabelledEvent, unlabelled, drawn, offered, head, waiting, is_kept}
 use Rattle.altq_model.specs.Busy.{as_of, SomeMaySend, IsLeastStart}
 use Rattle.play_laws.specs.Heads.{StartsWithHead, ComeInOrder}
 use Rattle.altq_model.specs.Lawful.{AreRising, IsHead, IsLawful, NeverWaits, latest}
@@ -82,23 +82,23 @@ order_case : (free u : ℕ) (a : Arrival) (w : DrawnWords) (v : Answer) (h : Lis
 order_case free u a w v h true t l o = o
 order_case free u a w v h false t l o = omega (arith, ltb-false u a.at t, l)
 
-order_step : (p : Policy) (rate seed : ℕ) (arrived : List Arrival) (g : List Happened) (e : Happened) → 0 < rate → IsOnTime p rate arrived (bare g)
-    → IsOffer p rate seed arrived g e ⊎ IsSending p rate arrived g e → ComeInOrder (link rate (bare g)).free (bare g)
-    → ComeInOrder (link rate (bare (e ∷ g))).free (bare (e ∷ g))
+order_step : (p : Policy) (rate seed : ℕ) (arrived : List Arrival) (g : List LabelledEvent) (e : LabelledEvent) → 0 < rate → IsOnTime p rate arrived (unlabelled g)
+    → IsOffer p rate seed arrived g e ⊎ IsSending p rate arrived g e → ComeInOrder (link rate (unlabelled g)).free (unlabelled g)
+    → ComeInOrder (link rate (unlabelled (e ∷ g))).free (unlabelled (e ∷ g))
 order_step p rate seed arrived g e pos t (inl x) o =
-    let P : Event → Type 0 = λ z. ComeInOrder (link rate (z ∷ bare g)).free (z ∷ bare g) in
-    let w : DrawnWords = record { seed = seed; drawn = drawn (bare g) } in
+    let P : Event → Type 0 = λ z. ComeInOrder (link rate (z ∷ unlabelled g)).free (z ∷ unlabelled g) in
+    let w : DrawnWords = record { seed = seed; drawn = drawn (unlabelled g) } in
     subst P (sym (offer_event p rate seed arrived g e x)) (λ u l.
-    order_case (link rate (bare g)).free u x.packet w (p.answer (bare g) w x.packet) (bare g) (nat_lt u x.packet.at) refl
-    (t.comes (offered (bare g)) x.packet (omega arith) x.next) (o u l))
+    order_case (link rate (unlabelled g)).free u x.packet w (p.answer (unlabelled g) w x.packet) (unlabelled g) (nat_lt u x.packet.at) refl
+    (t.comes (offered (unlabelled g)) x.packet (omega arith) x.next) (o u l))
 order_step p rate seed arrived g e pos t (inr y) o =
-    let P : Event → Type 0 = λ z. ComeInOrder (link rate (z ∷ bare g)).free (z ∷ bare g) in
+    let P : Event → Type 0 = λ z. ComeInOrder (link rate (z ∷ unlabelled g)).free (z ∷ unlabelled g) in
     let s = y.sending in
     subst P (sym y.event) (λ u l.
-    omega (arith, l, end_later rate (bare g) s.start s.len pos, t.starts s.class s.start y.may.held y.may.start))
+    omega (arith, l, end_later rate (unlabelled g) s.start s.len pos, t.starts s.class s.start y.may.held y.may.start))
 
-pub in_order : (p : Policy) (rate seed : ℕ) (arrived : List Arrival) (g : List Happened) → 0 < rate → IsLawful p → AreRising arrived → AreDue p rate seed arrived g
-    → ComeInOrder (link rate (bare g)).free (bare g)
+pub in_order : (p : Policy) (rate seed : ℕ) (arrived : List Arrival) (g : List LabelledEvent) → 0 < rate → IsLawful p → AreRising arrived → AreDue p rate seed arrived g
+    → ComeInOrder (link rate (unlabelled g)).free (unlabelled g)
 in_order p rate seed arrived [] pos law rise d = λ u l. omega arith
 in_order p rate seed arrived (e ∷ g) pos law rise d =
     let t = on_time p rate seed arrived g pos law rise d.1 in

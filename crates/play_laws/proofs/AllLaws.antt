@@ -1,6 +1,6 @@
 -- The laws of the events that are due, and of every play.
 use Rattle.std.proofs.Common.{◌<◌, ℕ, List, arith}
-use Rattle.altq_model.specs.History.{Arrival, Happened}
+use Rattle.altq_model.specs.History.{Arrival, LabelledEvent}
 use Rattle.altq_model.specs.Laws.{KeepsLaws}
 use Rattle.altq_model.specs.Play.{Policy, AreDue, IsPlay}
 use Rattle.altq_model.specs.Lawful.{IsLawful, AreRising, AreHeld}
@@ -12,7 +12,7 @@ use Rattle.play_laws.proofs.CountLemmas.{balanced, waits_once}
 use Rattle.play_laws.proofs.FewLemmas.{few_decided}
 use Rattle.play_laws.proofs.EndLemmas.{is_over, all_offered, offered_within, no_places, nothing_waits, conserved}
 
-pub due_laws : (p : Policy) (rate seed : ℕ) (arrived : List Arrival) (g : List Happened) → 0 < rate → IsLawful p → AreRising arrived
+pub due_laws : (p : Policy) (rate seed : ℕ) (arrived : List Arrival) (g : List LabelledEvent) → 0 < rate → IsLawful p → AreRising arrived
     → AreDue p rate seed arrived g → HasLaws p rate seed arrived g
 due_laws p rate seed arrived g pos law rise due =
     let f = each_follows p rate seed arrived g pos law rise due in
@@ -29,7 +29,7 @@ due_laws p rate seed arrived g pos law rise due =
       ends = link_ends p rate seed arrived g law f;
     }
 
-pub play_laws : (p : Policy) (rate seed : ℕ) (arrived : List Arrival) (g : List Happened) → 0 < rate → IsLawful p → AreRising arrived → AreHeld p arrived
+pub play_laws : (p : Policy) (rate seed : ℕ) (arrived : List Arrival) (g : List LabelledEvent) → 0 < rate → IsLawful p → AreRising arrived → AreHeld p arrived
     → IsPlay p rate seed arrived g → KeepsLaws rate arrived g
 play_laws p rate seed arrived g pos law rise can x =
     let f = each_follows p rate seed arrived g pos law rise x.events in
@@ -42,7 +42,7 @@ play_laws p rate seed arrived g pos law rise can x =
       ends = link_ends p rate seed arrived g law f;
     }
 
-pub play_is_whole : (p : Policy) (rate seed : ℕ) (arrived : List Arrival) (g : List Happened) → 0 < rate → IsLawful p → AreRising arrived → AreHeld p arrived
+pub play_is_whole : (p : Policy) (rate seed : ℕ) (arrived : List Arrival) (g : List LabelledEvent) → 0 < rate → IsLawful p → AreRising arrived → AreHeld p arrived
     → IsPlay p rate seed arrived g → IsWhole arrived g
 play_is_whole p rate seed arrived g pos law rise can x =
     let f = each_follows p rate seed arrived g pos law rise x.events in

@@ -3,7 +3,7 @@ use Rattle.std.proofs.Common.{◌≡◌, ◌≤◌, ◌<◌, ◌∙◌, ◌⊎�
 use Rattle.std.specs.Prelude.{slice_get, nat_lt}
 use Rattle.std.proofs.lemmas.Bool.{ltb-true, ltb-false}
 use Rattle.std.proofs.lemmas.Option.{slice_get_within}
-use Rattle.altq_model.specs.History.{Arrival, Answer, DrawnWords, Event, Offered, Sent, Sending, Happened, bare, offered, drawn}
+use Rattle.altq_model.specs.History.{Arrival, Answer, DrawnWords, Event, Offered, Sent, Sending, LabelledEvent, unlabelled, offered, drawn}
 use Rattle.altq_model.specs.Link.{link}
 use Rattle.altq_model.specs.Laws.{StartsBefore, IsPrompt}
 use Rattle.altq_model.specs.Busy.{as_of, SomeMaySend, IsLeastStart, IsBusy}
@@ -17,27 +17,27 @@ use Rattle.play_laws.proofs.TimeLemmas.{IsOnTime, on_time, follows, head_latest,
 use Rattle.play_laws.proofs.OrderLemmas.{starts_late}
 
 -- what is offered from a place on arrived after the start of each sending before
-pub started_before : (p : Policy) (rate seed : ℕ) (arrived : List Arrival) (g : List Happened) (k : ℕ) (a : Arrival) → AreRising arrived → EachFollows p rate seed arrived g
-    → offered (bare g) ≤ k → slice_get arrived k ≡ Some a → StartsBefore a.at (bare g)
+pub started_before : (p : Policy) (rate seed : ℕ) (arrived : List Arrival) (g : List LabelledEvent) (k : ℕ) (a : Arrival) → AreRising arrived → EachFollows p rate seed arrived g
+    → offered (unlabelled g) ≤ k → slice_get arrived k ≡ Some a → StartsBefore a.at (unlabelled g)
 started_before p rate seed arrived [] k a rise f l e = tt
 started_before p rate seed arrived (o ∷ g) k a rise (inl x, f) l e =
-    let P : Event → Type 0 = λ z. offered (z ∷ bare g) ≤ k → StartsBefore a.at (z ∷ bare g) in
+    let P : Event → Type 0 = λ z. offered (z ∷ unlabelled g) ≤ k → StartsBefore a.at (z ∷ unlabelled g) in
     subst P (sym (offer_event p rate seed arrived g o x)) (λ m. started_before p rate seed arrived g k a rise f (omega (arith, m)) e) l
 started_before p rate seed arrived (o ∷ g) k a rise (inr y, f) l e =
-    let P : Event → Type 0 = λ z. offered (z ∷ bare g) ≤ k → StartsBefore a.at (z ∷ bare g) in
+    let P : Event → Type 0 = λ z. offered (z ∷ unlabelled g) ≤ k → StartsBefore a.at (z ∷ unlabelled g) in
     subst P (sym y.event) (λ m.
-    let b = there_at arrived (offered (bare g)) (omega (arith, m, slice_get_within arrived k a e)) in
-    let r = rising_at 0 arrived (offered (bare g)) k b.0 a rise b.1 e m in
+    let b = there_at arrived (offered (unlabelled g)) (omega (arith, m, slice_get_within arrived k a e)) in
+    let r = rising_at 0 arrived (offered (unlabelled g)) k b.0 a rise b.1 e m in
     (omega (arith, y.passed b.0 b.1, r), started_before p rate seed arrived g k a rise f m e)) l
 
-pub prompt : (p : Policy) (rate seed : ℕ) (arrived : List Arrival) (g : List Happened) → AreRising arrived → EachFollows p rate seed arrived g → IsPrompt (bare g)
+pub prompt : (p : Policy) (rate seed : ℕ) (arrived : List Arrival) (g : List LabelledEvent) → AreRising arrived → EachFollows p rate seed arrived g → IsPrompt (unlabelled g)
 prompt p rate seed arrived [] rise f = tt
 prompt p rate seed arrived (o ∷ g) rise (inl x, f) =
-    let P : Event → Type 0 = λ z. IsPrompt (z ∷ bare g) in
+    let P : Event → Type 0 = λ z. IsPrompt (z ∷ unlabelled g) in
     subst P (sym (offer_event p rate seed arrived g o x))
-    (started_before p rate seed arrived g (offered (bare g)) x.packet rise f (omega arith) x.next, prompt p rate seed arrived g rise f)
+    (started_before p rate seed arrived g (offered (unlabelled g)) x.packet rise f (omega arith) x.next, prompt p rate seed arrived g rise f)
 prompt p rate seed arrived (o ∷ g) rise (inr y, f) =
-    let P : Event → Type 0 = λ z. IsPrompt (z ∷ bare g) in subst P (sym y.event) (prompt p rate seed arrived g rise f)
+    let P : Event → Type 0 = λ z. IsPrompt (z ∷ unlabelled g) in subst P (sym y.event) (prompt p rate seed arrived g rise f)
 
 -- a class that waits and whose head has arrived may send at a moment, and not before the first start
 waits_on : (p : Policy) (free : ℕ) (h : List Event) (u : ℕ) → IsSteady p → latest h ≤ u → free ≤ u
@@ -78,20 +78,20 @@ none_sent p rate h s u pos steady l after first m =
 abbrev NoneMay : Policy → (rate : ℕ) → List Event → (u : ℕ) → Type 0
 NoneMay p rate h u = (link rate h).free ≤ u → ((s : ℕ) → first_start p (link rate h).free h p.classes ≡ Some s → u < s) → SomeMaySend p (as_of u h) u → ⊥
 
-none_step : (p : Policy) (rate seed : ℕ) (arrived : List Arrival) (g : List Happened) (e : Happened) (u : ℕ) → 0 < rate → IsSteady p → IsOnTime p rate arrived (bare g)
-    → IsOffer p rate seed arrived g e ⊎ IsSending p rate arrived g e → NoneMay p rate (bare g) u → NoneMay p rate (bare (e ∷ g)) u
+none_step : (p : Policy) (rate seed : ℕ) (arrived : List Arrival) (g : List LabelledEvent) (e : LabelledEvent) (u : ℕ) → 0 < rate → IsSteady p → IsOnTime p rate arrived (unlabelled g)
+    → IsOffer p rate seed arrived g e ⊎ IsSending p rate arrived g e → NoneMay p rate (unlabelled g) u → NoneMay p rate (unlabelled (e ∷ g)) u
 none_step p rate seed arrived g e u pos steady t (inl x) rest =
-    let P : Event → Type 0 = λ z. NoneMay p rate (z ∷ bare g) u in
-    let w : DrawnWords = record { seed = seed; drawn = drawn (bare g) } in
+    let P : Event → Type 0 = λ z. NoneMay p rate (z ∷ unlabelled g) u in
+    let w : DrawnWords = record { seed = seed; drawn = drawn (unlabelled g) } in
     subst P (sym (offer_event p rate seed arrived g e x)) (λ l f m.
-    none_offer p rate arrived (bare g) x.packet w (p.answer (bare g) w x.packet) u steady t x.next x.first l f (rest l) m)
+    none_offer p rate arrived (unlabelled g) x.packet w (p.answer (unlabelled g) w x.packet) u steady t x.next x.first l f (rest l) m)
 none_step p rate seed arrived g e u pos steady t (inr y) rest =
-    let P : Event → Type 0 = λ z. NoneMay p rate (z ∷ bare g) u in
+    let P : Event → Type 0 = λ z. NoneMay p rate (z ∷ unlabelled g) u in
     subst P (sym y.event) (λ l f m.
-    none_sent p rate (bare g) y.sending u pos steady (t.starts y.sending.class y.sending.start y.may.held y.may.start) l f m)
+    none_sent p rate (unlabelled g) y.sending u pos steady (t.starts y.sending.class y.sending.start y.may.held y.may.start) l f m)
 
-none_may : (p : Policy) (rate seed : ℕ) (arrived : List Arrival) (g : List Happened) (u : ℕ) → 0 < rate → IsLawful p → IsSteady p → AreRising arrived
-    → AreDue p rate seed arrived g → NoneMay p rate (bare g) u
+none_may : (p : Policy) (rate seed : ℕ) (arrived : List Arrival) (g : List LabelledEvent) (u : ℕ) → 0 < rate → IsLawful p → IsSteady p → AreRising arrived
+    → AreDue p rate seed arrived g → NoneMay p rate (unlabelled g) u
 none_may p rate seed arrived [] u pos law steady rise d = λ l f m. let e = m.front in cc
 none_may p rate seed arrived (e ∷ g) u pos law steady rise d =
     let t = on_time p rate seed arrived g pos law rise d.1 in
@@ -132,29 +132,29 @@ least_case p rate h s u e none after m (inl l) = l
 least_case p rate h s u e none after m (inr l) =
     absurd (none after (λ t q. let o : Some s ≡ Some t = sym e ∙ q in let same : s ≡ t = cc in omega (arith, l, same)) m)
 
-starts_least : (p : Policy) (rate seed : ℕ) (arrived : List Arrival) (g : List Happened) (e : Happened) (y : IsSending p rate arrived g e) → 0 < rate → IsLawful p
-    → IsSteady p → AreRising arrived → AreDue p rate seed arrived g → IsLeastStart p (link rate (bare g)).free (bare g) y.sending.start
+starts_least : (p : Policy) (rate seed : ℕ) (arrived : List Arrival) (g : List LabelledEvent) (e : LabelledEvent) (y : IsSending p rate arrived g e) → 0 < rate → IsLawful p
+    → IsSteady p → AreRising arrived → AreDue p rate seed arrived g → IsLeastStart p (link rate (unlabelled g)).free (unlabelled g) y.sending.start
 starts_least p rate seed arrived g e y pos law steady rise d =
-    let free : ℕ = (link rate (bare g)).free in
+    let free : ℕ = (link rate (unlabelled g)).free in
     let s : ℕ = y.sending.start in
     let t = on_time p rate seed arrived g pos law rise d in
     record {
       after_end = (starts_late p rate arrived g e law y).after_free;
-      may = may_start p free (bare g) y.sending.class s y.packet law steady (record { held = y.may.held; front = y.front }) y.may.start
+      may = may_start p free (unlabelled g) y.sending.class s y.packet law steady (record { held = y.may.held; front = y.front }) y.may.start
           (t.starts y.sending.class s y.may.held y.may.start);
-      least = λ u l m. least_case p rate (bare g) s u y.least (none_may p rate seed arrived g u pos law steady rise d) l m (decide s u);
+      least = λ u l m. least_case p rate (unlabelled g) s u y.least (none_may p rate seed arrived g u pos law steady rise d) l m (decide s u);
     }
 
-busy_step : (p : Policy) (rate seed : ℕ) (arrived : List Arrival) (g : List Happened) (e : Happened) → 0 < rate → IsLawful p → IsSteady p → AreRising arrived
-    → AreDue p rate seed arrived g → IsOffer p rate seed arrived g e ⊎ IsSending p rate arrived g e → IsBusy p rate (bare g) → IsBusy p rate (bare (e ∷ g))
+busy_step : (p : Policy) (rate seed : ℕ) (arrived : List Arrival) (g : List LabelledEvent) (e : LabelledEvent) → 0 < rate → IsLawful p → IsSteady p → AreRising arrived
+    → AreDue p rate seed arrived g → IsOffer p rate seed arrived g e ⊎ IsSending p rate arrived g e → IsBusy p rate (unlabelled g) → IsBusy p rate (unlabelled (e ∷ g))
 busy_step p rate seed arrived g e pos law steady rise d (inl x) b =
-    let P : Event → Type 0 = λ z. IsBusy p rate (z ∷ bare g) in subst P (sym (offer_event p rate seed arrived g e x)) b
+    let P : Event → Type 0 = λ z. IsBusy p rate (z ∷ unlabelled g) in subst P (sym (offer_event p rate seed arrived g e x)) b
 busy_step p rate seed arrived g e pos law steady rise d (inr y) b =
-    let P : Event → Type 0 = λ z. IsBusy p rate (z ∷ bare g) in
+    let P : Event → Type 0 = λ z. IsBusy p rate (z ∷ unlabelled g) in
     subst P (sym y.event) (starts_least p rate seed arrived g e y pos law steady rise d, b)
 
-pub is_busy : (p : Policy) (rate seed : ℕ) (arrived : List Arrival) (g : List Happened) → 0 < rate → IsLawful p → IsSteady p → AreRising arrived
-    → AreDue p rate seed arrived g → IsBusy p rate (bare g)
+pub is_busy : (p : Policy) (rate seed : ℕ) (arrived : List Arrival) (g : List LabelledEvent) → 0 < rate → IsLawful p → IsSteady p → AreRising arrived
+    → AreDue p rate seed arrived g → IsBusy p rate (unlabelled g)
 is_busy p rate seed arrived [] pos law steady rise d = tt
 is_busy p rate seed arrived (e ∷ g) pos law steady rise d =
     busy_step p rate seed arrived g e pos law steady rise d.1

@@ -5,7 +5,7 @@ use Rattle.std.proofs.lemmas.Bool.{eqb-true, eq-eqb}
 use Rattle.std.proofs.lemmas.Grind.{common_steps}
 use Rattle.altq_model.specs.declared.Verdict.{Verdict}
 use Rattle.altq_model.specs.declared.Verdict.TheVariants.{Keep, Mark, Drop}
-use Rattle.altq_model.specs.History.{Arrival, DrawnWords, Event, Offered, Sent, Happened, bare, offered, drawn, labels, labels_after, is_kept, with_offer, without_head, Decision, dropped_by, decided, journal}
+use Rattle.altq_model.specs.History.{Arrival, DrawnWords, Event, Offered, Sent, LabelledEvent, unlabelled, offered, drawn, labels, labels_after, is_kept, with_offer, without_head, Decision, dropped_by, decided, journal}
 use Rattle.altq_model.specs.Laws.{occurs, numbers}
 use Rattle.altq_model.specs.Play.{Policy}
 use Rattle.play_laws.specs.Events.{IsOffer, IsSending, EachFollows, WaitsOnce}
@@ -26,7 +26,7 @@ places_after label (Offered a w v) xs = with_place v.verdict (a.class, label) xs
 places_after label (Sent s) xs = without_first s.class xs
 
 -- all that waits, whatever its class, in the order of the offers
-abbrev pub places : List Happened → List Place
+abbrev pub places : List LabelledEvent → List Place
 places [] = []
 places (e ∷ g) = places_after e.label e.what (places g)
 
@@ -89,7 +89,7 @@ class_after c label (Offered a w v) xs ns h = class_offer c xs a.class label v.v
 class_after c label (Sent s) xs ns h = class_take c s.class xs ∙ ap (without_head (s.class == c)) h
 
 -- the labels of a class are its places
-pub of_class_labels : (c : ℕ) (g : List Happened) → of_class c (places g) ≡ labels c g
+pub of_class_labels : (c : ℕ) (g : List LabelledEvent) → of_class c (places g) ≡ labels c g
 of_class_labels c [] = refl
 of_class_labels c (e ∷ g) = class_after c e.label e.what (places g) (labels c g) (of_class_labels c g)
 
@@ -131,8 +131,8 @@ taken_out n d m [] h = absurd (cc)
 taken_out n d m (x ∷ xs) h = out_case n d m x xs (x.0 == d) h (taken_out n d m xs)
 
 -- each number up to the count of offers was decided once or waits once
-pub record IsBalanced (n : ℕ) (g : List Happened) : Type 0 where
-  pub once : occurs n (numbers (journal g)) + occurs n (all_labels (places g)) ≡ should n (offered (bare g))
+pub record IsBalanced (n : ℕ) (g : List LabelledEvent) : Type 0 where
+  pub once : occurs n (numbers (journal g)) + occurs n (all_labels (places g)) ≡ should n (offered (unlabelled g))
 
 one_more : (n m : ℕ) → should n (m + 1) ≡ should n m + one (m + 1) n
 one_more n m = grind (arith, common_steps)
@@ -146,23 +146,23 @@ verdict_occurs n m k xs Keep = let q = places_occurs n xs (k, m) in omega (arith
 verdict_occurs n m k xs Mark = let q = places_occurs n xs (k, m) in omega (arith, q)
 verdict_occurs n m k xs (Drop r) = omega arith
 
-balanced_step : (p : Policy) (rate seed : ℕ) (arrived : List Arrival) (g : List Happened) (e : Happened) (n : ℕ) → IsBalanced n g
+balanced_step : (p : Policy) (rate seed : ℕ) (arrived : List Arrival) (g : List LabelledEvent) (e : LabelledEvent) (n : ℕ) → IsBalanced n g
     → IsOffer p rate seed arrived g e ⊎ IsSending p rate arrived g e → IsBalanced n (e ∷ g)
 balanced_step p rate seed arrived g e n x (inl y) =
-    let P : Happened → Type 0 = λ z. IsBalanced n (z ∷ g) in
-    let w : DrawnWords = record { seed = seed; drawn = drawn (bare g) } in
-    let v : Verdict = (p.answer (bare g) w y.packet).verdict in
-    let m : ℕ = offered (bare g) + 1 in
+    let P : LabelledEvent → Type 0 = λ z. IsBalanced n (z ∷ g) in
+    let w : DrawnWords = record { seed = seed; drawn = drawn (unlabelled g) } in
+    let v : Verdict = (p.answer (unlabelled g) w y.packet).verdict in
+    let m : ℕ = offered (unlabelled g) + 1 in
     let j = journal_occurs n (journal g) (dropped_by v m) in
     let c = verdict_occurs n m y.packet.class (places g) v in
-    subst P (sym y.offer) (record { once = omega (arith, x.once, j, c, one_more n (offered (bare g))) })
+    subst P (sym y.offer) (record { once = omega (arith, x.once, j, c, one_more n (offered (unlabelled g))) })
 balanced_step p rate seed arrived g e n x (inr y) =
-    let P : Event → Type 0 = λ z. let f : Happened = record { label = e.label; what = z } in IsBalanced n (f ∷ g) in
+    let P : Event → Type 0 = λ z. let f : LabelledEvent = record { label = e.label; what = z } in IsBalanced n (f ∷ g) in
     let j = journal_occurs n (journal g) (decided e.label (Sent y.sending)) in
     let c = taken_out n y.sending.class e.label (places g) (ap (λ (l : List ℕ). slice_get l 0) (of_class_labels y.sending.class g) ∙ y.number) in
     subst P (sym y.event) (record { once = omega (arith, x.once, j, c) })
 
-pub balanced : (p : Policy) (rate seed : ℕ) (arrived : List Arrival) (g : List Happened) (n : ℕ) → EachFollows p rate seed arrived g → IsBalanced n g
+pub balanced : (p : Policy) (rate seed : ℕ) (arrived : List Arrival) (g : List LabelledEvent) (n : ℕ) → EachFollows p rate seed arrived g → IsBalanced n g
 balanced p rate seed arrived [] n f = record { once = start n }
 balanced p rate seed arrived (e ∷ g) n f = balanced_step p rate seed arrived g e n (balanced p rate seed arrived g n f.1) f.0
 
@@ -176,6 +176,6 @@ class_occurs n c [] = omega arith
 class_occurs n c (x ∷ xs) = class_case n c x xs (x.0 == c) (class_occurs n c xs)
 
 -- what waits has no fate yet
-pub waits_once : (p : Policy) (rate seed : ℕ) (arrived : List Arrival) (g : List Happened) → EachFollows p rate seed arrived g → WaitsOnce g
+pub waits_once : (p : Policy) (rate seed : ℕ) (arrived : List Arrival) (g : List LabelledEvent) → EachFollows p rate seed arrived g → WaitsOnce g
 waits_once p rate seed arrived g f = λ n c.
     omega (arith, (balanced p rate seed arrived g n f).once, class_occurs n c (places g), ap (occurs n) (of_class_labels c g))

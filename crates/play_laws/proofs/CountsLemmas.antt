@@ -7,7 +7,7 @@ use Rattle.altq_model.specs.declared.Verdict.{Verdict}
 use Rattle.altq_model.specs.declared.Verdict.TheVariants.{Keep, Mark, Drop}
 use Rattle.altq_model.specs.Arrivals.{Captured, arrival, bare_arrivals}
 use Rattle.altq_model.specs.Counts.{total, of_arrivals, of_decisions}
-use Rattle.altq_model.specs.History.{Arrival, Event, Offered, Sent, Happened, Decision, dropped_by, decided, journal}
+use Rattle.altq_model.specs.History.{Arrival, Event, Offered, Sent, LabelledEvent, Decision, dropped_by, decided, journal}
 use Rattle.play_laws.specs.Events.{IsOfArrival, AreOfArrivals}
 use Rattle.play_laws.proofs.DepartureLemmas.{arrival_stays}
 
@@ -38,7 +38,7 @@ event_stays : (meant : Captured → Bool) (told : Fate → Bool) (amount : Captu
 event_stays meant told amount xs ys n (Offered a w v) x = drop_stays meant told amount xs ys n a v.verdict x.1
 event_stays meant told amount xs ys n (Sent s) x = one_stays meant told amount xs ys n x.packet (TheVariants.Sent s.start s.end s.rule) x.arrival
 
-pub decisions_stay : (meant : Captured → Bool) (told : Fate → Bool) (amount : Captured → ℕ) (xs ys : List Captured) (g : List Happened) → AreOfArrivals (bare_arrivals xs) g
+pub decisions_stay : (meant : Captured → Bool) (told : Fate → Bool) (amount : Captured → ℕ) (xs ys : List Captured) (g : List LabelledEvent) → AreOfArrivals (bare_arrivals xs) g
     → of_decisions meant told amount (xs ++ ys) (journal g) ≡ of_decisions meant told amount xs (journal g)
 decisions_stay meant told amount xs ys [] f = refl
 decisions_stay meant told amount xs ys (e ∷ g) f =

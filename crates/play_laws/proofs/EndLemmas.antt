@@ -5,7 +5,7 @@ use Rattle.std.specs.declared.option.Option.{Option}
 use Rattle.std.proofs.lemmas.Bool.{eq-eqb}
 use Rattle.std.proofs.lemmas.Option.{slice_get_within}
 use Rattle.altq_model.specs.declared.Verdict.{Verdict}
-use Rattle.altq_model.specs.History.{Arrival, DrawnWords, Event, Happened, bare, offered, drawn, waiting, labels, is_kept, journal}
+use Rattle.altq_model.specs.History.{Arrival, DrawnWords, Event, LabelledEvent, unlabelled, offered, drawn, waiting, labels, is_kept, journal}
 use Rattle.altq_model.specs.Link.{link}
 use Rattle.altq_model.specs.Laws.{IsConserved, occurs}
 use Rattle.altq_model.specs.Play.{Policy, Choice, offer_of, head_sent, sent_at, due_from, due, AreDue}
@@ -18,56 +18,56 @@ use Rattle.play_laws.proofs.OrderLemmas.{AreOf, waiting_of}
 use Rattle.play_laws.proofs.CountLemmas.{Place, places, with_place, without_first, of_class, of_class_labels, all_labels, should, balanced}
 
 -- a class that may send has a head with a label, so that its sending is there
-filled : (rate : ℕ) (arrived : List Arrival) (g : List Happened) (s : ℕ) (c : Choice) (ns : List ℕ) (ws : List Arrival) (a : Arrival) → AreOf arrived ns ws
+filled : (rate : ℕ) (arrived : List Arrival) (g : List LabelledEvent) (s : ℕ) (c : Choice) (ns : List ℕ) (ws : List Arrival) (a : Arrival) → AreOf arrived ns ws
     → slice_get ws 0 ≡ Some a → head_sent rate g s c (slice_get ns 0) (slice_get ws 0) ≡ None → ⊥
 filled rate arrived g s c [] [] a x e h = cc
 filled rate arrived g s c [] (b ∷ ws) a x e h = x
 filled rate arrived g s c (n ∷ ns) [] a x e h = x
 filled rate arrived g s c (n ∷ ns) (b ∷ ws) a x e h = cc
 
-pub never_none : (p : Policy) (rate seed : ℕ) (arrived : List Arrival) (g : List Happened) (s : ℕ) (c : Choice) → EachFollows p rate seed arrived g
-    → MaySend p (link rate (bare g)).free (bare g) c.class s → sent_at rate g s c ≡ None → ⊥
+pub never_none : (p : Policy) (rate seed : ℕ) (arrived : List Arrival) (g : List LabelledEvent) (s : ℕ) (c : Choice) → EachFollows p rate seed arrived g
+    → MaySend p (link rate (unlabelled g)).free (unlabelled g) c.class s → sent_at rate g s c ≡ None → ⊥
 never_none p rate seed arrived g s c f m h =
-    let x = head_of p (link rate (bare g)).free (bare g) c.class s m.start in
-    filled rate arrived g s c (labels c.class g) (waiting c.class (bare g)) x.packet (waiting_of p rate seed arrived g c.class f) x.front h
+    let x = head_of p (link rate (unlabelled g)).free (unlabelled g) c.class s m.start in
+    filled rate arrived g s c (labels c.class g) (waiting c.class (unlabelled g)) x.packet (waiting_of p rate seed arrived g c.class f) x.front h
 
-test_none : (b : Bool) (e : Happened) (x : Option Happened) → cond b (Some e) x ≡ None → x ≡ None
+test_none : (b : Bool) (e : LabelledEvent) (x : Option LabelledEvent) → cond b (Some e) x ≡ None → x ≡ None
 test_none true e x h = absurd (cc)
 test_none false e x h = h
 
 -- nothing comes, and no class may ever send
-pub record IsOver (p : Policy) (rate : ℕ) (arrived : List Arrival) (g : List Happened) : Type 0 where
+pub record IsOver (p : Policy) (rate : ℕ) (arrived : List Arrival) (g : List LabelledEvent) : Type 0 where
   pub all_came : next_after arrived g ≡ None
   pub none_sends : first_after p rate g ≡ None
 
-over_case : (p : Policy) (rate seed : ℕ) (arrived : List Arrival) (g : List Happened) (o : Option Arrival) (f : Option ℕ)
-    → next_after arrived g ≡ o → first_after p rate g ≡ f → ((s : ℕ) → f ≡ Some s → sent_at rate g s (p.pick (bare g) s) ≡ None → ⊥)
+over_case : (p : Policy) (rate seed : ℕ) (arrived : List Arrival) (g : List LabelledEvent) (o : Option Arrival) (f : Option ℕ)
+    → next_after arrived g ≡ o → first_after p rate g ≡ f → ((s : ℕ) → f ≡ Some s → sent_at rate g s (p.pick (unlabelled g) s) ≡ None → ⊥)
     → due_from p rate seed g o f ≡ None → IsOver p rate arrived g
 over_case p rate seed arrived g None None n f t h = record { all_came = n; none_sends = f }
 over_case p rate seed arrived g (Some a) None n f t h = absurd (cc)
 over_case p rate seed arrived g None (Some s) n f t h = absurd (t s refl h)
 over_case p rate seed arrived g (Some a) (Some s) n f t h = absurd (t s refl (test_none (nat_le a.at s) (offer_of p seed g a) _ h))
 
-pub is_over : (p : Policy) (rate seed : ℕ) (arrived : List Arrival) (g : List Happened) → 0 < rate → IsLawful p → AreRising arrived
+pub is_over : (p : Policy) (rate seed : ℕ) (arrived : List Arrival) (g : List LabelledEvent) → 0 < rate → IsLawful p → AreRising arrived
     → AreDue p rate seed arrived g → due p rate seed arrived g ≡ None → IsOver p rate arrived g
 is_over p rate seed arrived g pos law rise d h =
     let t = on_time p rate seed arrived g pos law rise d in
     let f = each_follows p rate seed arrived g pos law rise d in
     over_case p rate seed arrived g (next_after arrived g) (first_after p rate g) refl refl
-    (λ s e q. never_none p rate seed arrived g s (p.pick (bare g) s) f
-    (law.picks (bare g) (link rate (bare g)).free s e (have_arrived p rate arrived (bare g) s t e)) q) h
+    (λ s e q. never_none p rate seed arrived g s (p.pick (unlabelled g) s) f
+    (law.picks (unlabelled g) (link rate (unlabelled g)).free s e (have_arrived p rate arrived (unlabelled g) s t e)) q) h
 
 -- how many were offered
-offered_step : (p : Policy) (rate seed : ℕ) (arrived : List Arrival) (g : List Happened) (e : Happened) → offered (bare g) ≤ length arrived
-    → IsOffer p rate seed arrived g e ⊎ IsSending p rate arrived g e → offered (bare (e ∷ g)) ≤ length arrived
+offered_step : (p : Policy) (rate seed : ℕ) (arrived : List Arrival) (g : List LabelledEvent) (e : LabelledEvent) → offered (unlabelled g) ≤ length arrived
+    → IsOffer p rate seed arrived g e ⊎ IsSending p rate arrived g e → offered (unlabelled (e ∷ g)) ≤ length arrived
 offered_step p rate seed arrived g e l (inl x) =
-    let P : Happened → Type 0 = λ z. offered (bare (z ∷ g)) ≤ length arrived in
-    let i = slice_get_within arrived (offered (bare g)) x.packet x.next in
+    let P : LabelledEvent → Type 0 = λ z. offered (unlabelled (z ∷ g)) ≤ length arrived in
+    let i = slice_get_within arrived (offered (unlabelled g)) x.packet x.next in
     subst P (sym x.offer) (omega (arith, i))
 offered_step p rate seed arrived g e l (inr x) =
-    let P : Event → Type 0 = λ z. offered (z ∷ bare g) ≤ length arrived in subst P (sym x.event) l
+    let P : Event → Type 0 = λ z. offered (z ∷ unlabelled g) ≤ length arrived in subst P (sym x.event) l
 
-pub offered_within : (p : Policy) (rate seed : ℕ) (arrived : List Arrival) (g : List Happened) → EachFollows p rate seed arrived g → offered (bare g) ≤ length arrived
+pub offered_within : (p : Policy) (rate seed : ℕ) (arrived : List Arrival) (g : List LabelledEvent) → EachFollows p rate seed arrived g → offered (unlabelled g) ≤ length arrived
 offered_within p rate seed arrived [] f = omega arith
 offered_within p rate seed arrived (e ∷ g) f = offered_step p rate seed arrived g e (offered_within p rate seed arrived g f.1) f.0
 
@@ -76,9 +76,9 @@ past [] k e = omega arith
 past (a ∷ rest) zero e = absurd (cc)
 past (a ∷ rest) (suc k) e = omega (arith, past rest k e)
 
-pub all_offered : (p : Policy) (rate seed : ℕ) (arrived : List Arrival) (g : List Happened) → EachFollows p rate seed arrived g → next_after arrived g ≡ None
-    → offered (bare g) ≡ length arrived
-all_offered p rate seed arrived g f n = omega (arith, offered_within p rate seed arrived g f, past arrived (offered (bare g)) n)
+pub all_offered : (p : Policy) (rate seed : ℕ) (arrived : List Arrival) (g : List LabelledEvent) → EachFollows p rate seed arrived g → next_after arrived g ≡ None
+    → offered (unlabelled g) ≡ length arrived
+all_offered p rate seed arrived g f n = omega (arith, offered_within p rate seed arrived g f, past arrived (offered (unlabelled g)) n)
 
 -- what waits is of the policy's classes
 held_at : (p : Policy) (arrived : List Arrival) (k : ℕ) (a : Arrival) → AreHeld p arrived → slice_get arrived k ≡ Some a → IsOneOf a.class p.classes
@@ -109,18 +109,18 @@ held_take : (cs : List ℕ) (d : ℕ) (xs : List Place) → AllOneOf cs xs → A
 held_take cs d [] h = tt
 held_take cs d (x ∷ xs) h = held_case cs x xs (without_first d xs) (x.0 == d) h.0 h.1 (held_take cs d xs h.1)
 
-held_step : (p : Policy) (rate seed : ℕ) (arrived : List Arrival) (g : List Happened) (e : Happened) → AreHeld p arrived → AllOneOf p.classes (places g)
+held_step : (p : Policy) (rate seed : ℕ) (arrived : List Arrival) (g : List LabelledEvent) (e : LabelledEvent) → AreHeld p arrived → AllOneOf p.classes (places g)
     → IsOffer p rate seed arrived g e ⊎ IsSending p rate arrived g e → AllOneOf p.classes (places (e ∷ g))
 held_step p rate seed arrived g e can h (inl x) =
-    let P : Happened → Type 0 = λ z. AllOneOf p.classes (places (z ∷ g)) in
-    let w : DrawnWords = record { seed = seed; drawn = drawn (bare g) } in
-    subst P (sym x.offer) (held_offer p.classes (p.answer (bare g) w x.packet).verdict (x.packet.class, offered (bare g) + 1) (places g) h
-    (held_at p arrived (offered (bare g)) x.packet can x.next))
+    let P : LabelledEvent → Type 0 = λ z. AllOneOf p.classes (places (z ∷ g)) in
+    let w : DrawnWords = record { seed = seed; drawn = drawn (unlabelled g) } in
+    subst P (sym x.offer) (held_offer p.classes (p.answer (unlabelled g) w x.packet).verdict (x.packet.class, offered (unlabelled g) + 1) (places g) h
+    (held_at p arrived (offered (unlabelled g)) x.packet can x.next))
 held_step p rate seed arrived g e can h (inr x) =
-    let P : Event → Type 0 = λ z. let f : Happened = record { label = e.label; what = z } in AllOneOf p.classes (places (f ∷ g)) in
+    let P : Event → Type 0 = λ z. let f : LabelledEvent = record { label = e.label; what = z } in AllOneOf p.classes (places (f ∷ g)) in
     subst P (sym x.event) (held_take p.classes x.sending.class (places g) h)
 
-pub held : (p : Policy) (rate seed : ℕ) (arrived : List Arrival) (g : List Happened) → AreHeld p arrived → EachFollows p rate seed arrived g
+pub held : (p : Policy) (rate seed : ℕ) (arrived : List Arrival) (g : List LabelledEvent) → AreHeld p arrived → EachFollows p rate seed arrived g
     → AllOneOf p.classes (places g)
 held p rate seed arrived [] can f = tt
 held p rate seed arrived (e ∷ g) can f = held_step p rate seed arrived g e can (held p rate seed arrived g can f.1) f.0
@@ -148,19 +148,19 @@ no_packets arrived ns [] x e = refl
 no_packets arrived [] (a ∷ ws) x e = absurd x
 no_packets arrived (n ∷ ns) (a ∷ ws) x e = absurd (cc)
 
-pub no_places : (p : Policy) (rate seed : ℕ) (arrived : List Arrival) (g : List Happened) → AreHeld p arrived → EachFollows p rate seed arrived g
+pub no_places : (p : Policy) (rate seed : ℕ) (arrived : List Arrival) (g : List LabelledEvent) → AreHeld p arrived → EachFollows p rate seed arrived g
     → first_after p rate g ≡ None → places g ≡ []
 no_places p rate seed arrived g can f n =
     none_left p.classes (places g) (held p rate seed arrived g can f) (λ c i.
-    of_class_labels c g ∙ no_labels arrived (labels c g) (waiting c (bare g)) (waiting_of p rate seed arrived g c f)
-    (no_head (waiting c (bare g)) (none_waits p (link rate (bare g)).free (bare g) p.classes c n i)))
+    of_class_labels c g ∙ no_labels arrived (labels c g) (waiting c (unlabelled g)) (waiting_of p rate seed arrived g c f)
+    (no_head (waiting c (unlabelled g)) (none_waits p (link rate (unlabelled g)).free (unlabelled g) p.classes c n i)))
 
-pub nothing_waits : (p : Policy) (rate seed : ℕ) (arrived : List Arrival) (g : List Happened) (c : ℕ) → EachFollows p rate seed arrived g → places g ≡ []
-    → waiting c (bare g) ≡ []
+pub nothing_waits : (p : Policy) (rate seed : ℕ) (arrived : List Arrival) (g : List LabelledEvent) (c : ℕ) → EachFollows p rate seed arrived g → places g ≡ []
+    → waiting c (unlabelled g) ≡ []
 nothing_waits p rate seed arrived g c f e =
-    no_packets arrived (labels c g) (waiting c (bare g)) (waiting_of p rate seed arrived g c f) (sym (of_class_labels c g) ∙ ap (of_class c) e)
+    no_packets arrived (labels c g) (waiting c (unlabelled g)) (waiting_of p rate seed arrived g c f) (sym (of_class_labels c g) ∙ ap (of_class c) e)
 
-pub conserved : (p : Policy) (rate seed : ℕ) (arrived : List Arrival) (g : List Happened) → EachFollows p rate seed arrived g → next_after arrived g ≡ None → places g ≡ []
+pub conserved : (p : Policy) (rate seed : ℕ) (arrived : List Arrival) (g : List LabelledEvent) → EachFollows p rate seed arrived g → next_after arrived g ≡ None → places g ≡ []
     → IsConserved (length arrived) (journal g)
 conserved p rate seed arrived g f n e = λ m.
     let b = (balanced p rate seed arrived g m f).once in

@@ -5,7 +5,7 @@ use Rattle.std.specs.Option.{option_map_or}
 use Rattle.std.specs.declared.option.Option.{Option}
 use Rattle.std.proofs.lemmas.Bool.{eqb-true}
 use Rattle.altq_model.specs.declared.Verdict.{Verdict}
-use Rattle.altq_model.specs.History.{Offered, Sent, Arrival, DrawnWords, Event, Happened, bare, offered, drawn, head, waiting, labels, is_kept, with_offer, without_head}
+use Rattle.altq_model.specs.History.{Offered, Sent, Arrival, DrawnWords, Event, LabelledEvent, unlabelled, offered, drawn, head, waiting, labels, is_kept, with_offer, without_head}
 use Rattle.altq_model.specs.Link.{link, HasLinkEnds}
 use Rattle.altq_model.specs.Laws.{AllBelow, sent_in, FollowsInOrder, IsOrdered, at_of, StartsAfter, IsNotBefore}
 use Rattle.altq_model.specs.Play.{Policy}
@@ -69,40 +69,40 @@ next_above ss high n (m ∷ ns) x e =
     subst P same (below_weaken (last ss + 1) m ss (omega (arith, x.rises.0)) x.sent)
 
 -- the label of a class's head, where the sending is of that class
-pub own_label : (d c : ℕ) (g : List Happened) (n : ℕ) → slice_get (labels d g) 0 ≡ Some n → (d == c) ≡ true → slice_get (labels c g) 0 ≡ Some n
+pub own_label : (d c : ℕ) (g : List LabelledEvent) (n : ℕ) → slice_get (labels d g) 0 ≡ Some n → (d == c) ≡ true → slice_get (labels c g) 0 ≡ Some n
 own_label d c g n e t = let P : ℕ → Type 0 = λ k. slice_get (labels k g) 0 ≡ Some n in subst P (eqb-true d c t) e
 
-sorted_step : (p : Policy) (rate seed : ℕ) (arrived : List Arrival) (g : List Happened) (e : Happened) (c : ℕ)
-    → IsSorted (sent_in c g) (offered (bare g)) (labels c g) → IsOffer p rate seed arrived g e ⊎ IsSending p rate arrived g e
-    → IsSorted (sent_in c (e ∷ g)) (offered (bare (e ∷ g))) (labels c (e ∷ g))
+sorted_step : (p : Policy) (rate seed : ℕ) (arrived : List Arrival) (g : List LabelledEvent) (e : LabelledEvent) (c : ℕ)
+    → IsSorted (sent_in c g) (offered (unlabelled g)) (labels c g) → IsOffer p rate seed arrived g e ⊎ IsSending p rate arrived g e
+    → IsSorted (sent_in c (e ∷ g)) (offered (unlabelled (e ∷ g))) (labels c (e ∷ g))
 sorted_step p rate seed arrived g e c x (inl y) =
-    let P : Happened → Type 0 = λ z. IsSorted (sent_in c (z ∷ g)) (offered (bare (z ∷ g))) (labels c (z ∷ g)) in
-    let w : DrawnWords = record { seed = seed; drawn = drawn (bare g) } in
+    let P : LabelledEvent → Type 0 = λ z. IsSorted (sent_in c (z ∷ g)) (offered (unlabelled (z ∷ g))) (labels c (z ∷ g)) in
+    let w : DrawnWords = record { seed = seed; drawn = drawn (unlabelled g) } in
     subst P (sym y.offer) (record {
       sent = x.sent;
-      rises = rises_offer (last (sent_in c g)) (offered (bare g)) (y.packet.class == c) (p.answer (bare g) w y.packet).verdict (labels c g) x.rises;
+      rises = rises_offer (last (sent_in c g)) (offered (unlabelled g)) (y.packet.class == c) (p.answer (unlabelled g) w y.packet).verdict (labels c g) x.rises;
     })
 sorted_step p rate seed arrived g e c x (inr y) =
-    let P : Event → Type 0 = λ z. let f : Happened = record { label = e.label; what = z } in
-    IsSorted (sent_in c (f ∷ g)) (offered (bare (f ∷ g))) (labels c (f ∷ g)) in
-    subst P (sym y.event) (sorted_sent (sent_in c g) (offered (bare g)) e.label (labels c g) (y.sending.class == c) x
+    let P : Event → Type 0 = λ z. let f : LabelledEvent = record { label = e.label; what = z } in
+    IsSorted (sent_in c (f ∷ g)) (offered (unlabelled (f ∷ g))) (labels c (f ∷ g)) in
+    subst P (sym y.event) (sorted_sent (sent_in c g) (offered (unlabelled g)) e.label (labels c g) (y.sending.class == c) x
     (λ t. own_label y.sending.class c g e.label y.number t))
 
-sorted : (p : Policy) (rate seed : ℕ) (arrived : List Arrival) (g : List Happened) (c : ℕ) → EachFollows p rate seed arrived g
-    → IsSorted (sent_in c g) (offered (bare g)) (labels c g)
+sorted : (p : Policy) (rate seed : ℕ) (arrived : List Arrival) (g : List LabelledEvent) (c : ℕ) → EachFollows p rate seed arrived g
+    → IsSorted (sent_in c g) (offered (unlabelled g)) (labels c g)
 sorted p rate seed arrived [] c f = record { sent = tt; rises = omega arith }
 sorted p rate seed arrived (e ∷ g) c f = sorted_step p rate seed arrived g e c (sorted p rate seed arrived g c f.1) f.0
 
-order_step : (p : Policy) (rate seed : ℕ) (arrived : List Arrival) (g : List Happened) (e : Happened) → EachFollows p rate seed arrived g
+order_step : (p : Policy) (rate seed : ℕ) (arrived : List Arrival) (g : List LabelledEvent) (e : LabelledEvent) → EachFollows p rate seed arrived g
     → IsOffer p rate seed arrived g e ⊎ IsSending p rate arrived g e → FollowsInOrder e.label e.what g
 order_step p rate seed arrived g e f (inl y) =
     let P : Event → Type 0 = λ z. FollowsInOrder e.label z g in subst P (sym (offer_event p rate seed arrived g e y)) tt
 order_step p rate seed arrived g e f (inr y) =
     let P : Event → Type 0 = λ z. FollowsInOrder e.label z g in
     let c : ℕ = y.sending.class in
-    subst P (sym y.event) (next_above (sent_in c g) (offered (bare g)) e.label (labels c g) (sorted p rate seed arrived g c f) y.number)
+    subst P (sym y.event) (next_above (sent_in c g) (offered (unlabelled g)) e.label (labels c g) (sorted p rate seed arrived g c f) y.number)
 
-pub ordered : (p : Policy) (rate seed : ℕ) (arrived : List Arrival) (g : List Happened) → EachFollows p rate seed arrived g → IsOrdered g
+pub ordered : (p : Policy) (rate seed : ℕ) (arrived : List Arrival) (g : List LabelledEvent) → EachFollows p rate seed arrived g → IsOrdered g
 ordered p rate seed arrived [] f = tt
 ordered p rate seed arrived (e ∷ g) f = (order_step p rate seed arrived g e f.1 f.0, ordered p rate seed arrived g f.1)
 
@@ -136,20 +136,20 @@ of_rest arrived true [] (b ∷ ws) x = absurd x
 of_rest arrived true (m ∷ ns) [] x = absurd x
 of_rest arrived true (m ∷ ns) (b ∷ ws) x = x.2
 
-of_step : (p : Policy) (rate seed : ℕ) (arrived : List Arrival) (g : List Happened) (e : Happened) (c : ℕ) → AreOf arrived (labels c g) (waiting c (bare g))
-    → IsOffer p rate seed arrived g e ⊎ IsSending p rate arrived g e → AreOf arrived (labels c (e ∷ g)) (waiting c (bare (e ∷ g)))
+of_step : (p : Policy) (rate seed : ℕ) (arrived : List Arrival) (g : List LabelledEvent) (e : LabelledEvent) (c : ℕ) → AreOf arrived (labels c g) (waiting c (unlabelled g))
+    → IsOffer p rate seed arrived g e ⊎ IsSending p rate arrived g e → AreOf arrived (labels c (e ∷ g)) (waiting c (unlabelled (e ∷ g)))
 of_step p rate seed arrived g e c x (inl y) =
-    let P : Happened → Type 0 = λ z. AreOf arrived (labels c (z ∷ g)) (waiting c (bare (z ∷ g))) in
-    let w : DrawnWords = record { seed = seed; drawn = drawn (bare g) } in
-    let k : offered (bare g) + 1 - 1 ≡ offered (bare g) = omega arith in
-    subst P (sym y.offer) (of_offer arrived (offered (bare g) + 1) y.packet (y.packet.class == c) (p.answer (bare g) w y.packet).verdict
-    (labels c g) (waiting c (bare g)) x (omega arith) (ap (slice_get arrived) k ∙ y.next))
+    let P : LabelledEvent → Type 0 = λ z. AreOf arrived (labels c (z ∷ g)) (waiting c (unlabelled (z ∷ g))) in
+    let w : DrawnWords = record { seed = seed; drawn = drawn (unlabelled g) } in
+    let k : offered (unlabelled g) + 1 - 1 ≡ offered (unlabelled g) = omega arith in
+    subst P (sym y.offer) (of_offer arrived (offered (unlabelled g) + 1) y.packet (y.packet.class == c) (p.answer (unlabelled g) w y.packet).verdict
+    (labels c g) (waiting c (unlabelled g)) x (omega arith) (ap (slice_get arrived) k ∙ y.next))
 of_step p rate seed arrived g e c x (inr y) =
-    let P : Event → Type 0 = λ z. let f : Happened = record { label = e.label; what = z } in AreOf arrived (labels c (f ∷ g)) (waiting c (bare (f ∷ g))) in
-    subst P (sym y.event) (of_rest arrived (y.sending.class == c) (labels c g) (waiting c (bare g)) x)
+    let P : Event → Type 0 = λ z. let f : LabelledEvent = record { label = e.label; what = z } in AreOf arrived (labels c (f ∷ g)) (waiting c (unlabelled (f ∷ g))) in
+    subst P (sym y.event) (of_rest arrived (y.sending.class == c) (labels c g) (waiting c (unlabelled g)) x)
 
-pub waiting_of : (p : Policy) (rate seed : ℕ) (arrived : List Arrival) (g : List Happened) (c : ℕ) → EachFollows p rate seed arrived g
-    → AreOf arrived (labels c g) (waiting c (bare g))
+pub waiting_of : (p : Policy) (rate seed : ℕ) (arrived : List Arrival) (g : List LabelledEvent) (c : ℕ) → EachFollows p rate seed arrived g
+    → AreOf arrived (labels c g) (waiting c (unlabelled g))
 waiting_of p rate seed arrived [] c f = tt
 waiting_of p rate seed arrived (e ∷ g) c f = of_step p rate seed arrived g e c (waiting_of p rate seed arrived g c f.1) f.0
 
@@ -168,9 +168,9 @@ numbered arrived (m ∷ ns) (b ∷ ws) n a x e f =
     let P : ℕ → Type 0 = λ k. IsNumbered arrived k a in
     subst P s (record { from_one = x.0; there = x.1 ∙ ap (λ (y : Arrival). Some y) t })
 
-pub head_numbered : (p : Policy) (rate seed : ℕ) (arrived : List Arrival) (g : List Happened) (c n : ℕ) (a : Arrival) → EachFollows p rate seed arrived g
-    → slice_get (labels c g) 0 ≡ Some n → head c (bare g) ≡ Some a → IsNumbered arrived n a
-head_numbered p rate seed arrived g c n a f e h = numbered arrived (labels c g) (waiting c (bare g)) n a (waiting_of p rate seed arrived g c f) e h
+pub head_numbered : (p : Policy) (rate seed : ℕ) (arrived : List Arrival) (g : List LabelledEvent) (c n : ℕ) (a : Arrival) → EachFollows p rate seed arrived g
+    → slice_get (labels c g) 0 ≡ Some n → head c (unlabelled g) ≡ Some a → IsNumbered arrived n a
+head_numbered p rate seed arrived g c n a f e h = numbered arrived (labels c g) (waiting c (unlabelled g)) n a (waiting_of p rate seed arrived g c f) e h
 
 pub at_numbered : (arrived : List Arrival) (n : ℕ) (a : Arrival) → slice_get arrived (n - 1) ≡ Some a → at_of arrived n ≡ a.at
 at_numbered arrived n a e = ap (λ (o : Option Arrival). option_map_or (λ (x : Arrival). x.at) o 0) e
@@ -206,11 +206,11 @@ first_class : (c : ℕ) (ws : List Arrival) (a : Arrival) → AllOfClass c ws �
 first_class c [] a x e = absurd (cc)
 first_class c (b ∷ ws) a x e = let same : b ≡ a = cc in sym x.0 ∙ ap (λ (y : Arrival). y.class) same
 
-arrival_step : (p : Policy) (rate seed : ℕ) (arrived : List Arrival) (g : List Happened) (e : Happened) → EachFollows p rate seed arrived g
+arrival_step : (p : Policy) (rate seed : ℕ) (arrived : List Arrival) (g : List LabelledEvent) (e : LabelledEvent) → EachFollows p rate seed arrived g
     → IsOffer p rate seed arrived g e ⊎ IsSending p rate arrived g e → IsOfArrival arrived e.label e.what
 arrival_step p rate seed arrived g e f (inl y) =
-    let P : Happened → Type 0 = λ z. IsOfArrival arrived z.label z.what in
-    let k : offered (bare g) + 1 - 1 ≡ offered (bare g) = omega arith in
+    let P : LabelledEvent → Type 0 = λ z. IsOfArrival arrived z.label z.what in
+    let k : offered (unlabelled g) + 1 - 1 ≡ offered (unlabelled g) = omega arith in
     subst P (sym y.offer) (omega arith, ap (slice_get arrived) k ∙ y.next)
 arrival_step p rate seed arrived g e f (inr y) =
     let P : Event → Type 0 = λ z. IsOfArrival arrived e.label z in
@@ -220,11 +220,11 @@ arrival_step p rate seed arrived g e f (inr y) =
       packet = y.packet;
       from_one = n.from_one;
       arrival = n.there;
-      class = first_class c (waiting c (bare g)) y.packet (waiting_class c (bare g)) y.front;
+      class = first_class c (waiting c (unlabelled g)) y.packet (waiting_class c (unlabelled g)) y.front;
       len = y.len;
     })
 
-pub of_arrivals : (p : Policy) (rate seed : ℕ) (arrived : List Arrival) (g : List Happened) → EachFollows p rate seed arrived g → AreOfArrivals arrived g
+pub of_arrivals : (p : Policy) (rate seed : ℕ) (arrived : List Arrival) (g : List LabelledEvent) → EachFollows p rate seed arrived g → AreOfArrivals arrived g
 of_arrivals p rate seed arrived [] f = tt
 of_arrivals p rate seed arrived (e ∷ g) f = (arrival_step p rate seed arrived g e f.1 f.0, of_arrivals p rate seed arrived g f.1)
 
@@ -233,18 +233,18 @@ pub record StartsLate (free at start : ℕ) : Type 0 where
   pub after_free : free ≤ start
   pub after_at : at ≤ start
 
-pub starts_late : (p : Policy) (rate : ℕ) (arrived : List Arrival) (g : List Happened) (e : Happened) → IsLawful p → (y : IsSending p rate arrived g e)
-    → StartsLate (link rate (bare g)).free y.packet.at y.sending.start
+pub starts_late : (p : Policy) (rate : ℕ) (arrived : List Arrival) (g : List LabelledEvent) (e : LabelledEvent) → IsLawful p → (y : IsSending p rate arrived g e)
+    → StartsLate (link rate (unlabelled g)).free y.packet.at y.sending.start
 starts_late p rate arrived g e law y =
-    let f : ℕ = (link rate (bare g)).free in
-    let x = head_of p f (bare g) y.sending.class y.sending.start y.may.start in
+    let f : ℕ = (link rate (unlabelled g)).free in
+    let x = head_of p f (unlabelled g) y.sending.class y.sending.start y.may.start in
     let j : Some x.packet ≡ Some y.packet = sym x.front ∙ y.front in
     let same : x.packet ≡ y.packet = cc in
-    let l = law.later (bare g) y.sending.class (max f x.packet.at) x.packet (record { held = y.may.held; front = x.front }) in
+    let l = law.later (unlabelled g) y.sending.class (max f x.packet.at) x.packet (record { held = y.may.held; front = x.front }) in
     let P : Arrival → Type 0 = λ a. StartsLate f a.at y.sending.start in
     subst P same (record { after_free = omega (arith, l, x.start); after_at = omega (arith, l, x.start) })
 
-not_before_step : (p : Policy) (rate seed : ℕ) (arrived : List Arrival) (g : List Happened) (e : Happened) → IsLawful p → EachFollows p rate seed arrived g
+not_before_step : (p : Policy) (rate seed : ℕ) (arrived : List Arrival) (g : List LabelledEvent) (e : LabelledEvent) → IsLawful p → EachFollows p rate seed arrived g
     → IsOffer p rate seed arrived g e ⊎ IsSending p rate arrived g e → StartsAfter arrived e.label e.what
 not_before_step p rate seed arrived g e law f (inl y) =
     let P : Event → Type 0 = λ z. StartsAfter arrived e.label z in subst P (sym (offer_event p rate seed arrived g e y)) tt
@@ -254,18 +254,18 @@ not_before_step p rate seed arrived g e law f (inr y) =
     let l = starts_late p rate arrived g e law y in
     subst P (sym y.event) (omega (arith, at_numbered arrived e.label y.packet n.there, l.after_at))
 
-pub not_before : (p : Policy) (rate seed : ℕ) (arrived : List Arrival) (g : List Happened) → IsLawful p → EachFollows p rate seed arrived g → IsNotBefore arrived g
+pub not_before : (p : Policy) (rate seed : ℕ) (arrived : List Arrival) (g : List LabelledEvent) → IsLawful p → EachFollows p rate seed arrived g → IsNotBefore arrived g
 not_before p rate seed arrived [] law f = tt
 not_before p rate seed arrived (e ∷ g) law f = (not_before_step p rate seed arrived g e law f.1 f.0, not_before p rate seed arrived g law f.1)
 
-ends_step : (p : Policy) (rate seed : ℕ) (arrived : List Arrival) (g : List Happened) (e : Happened) → IsLawful p → HasLinkEnds rate (bare g)
-    → IsOffer p rate seed arrived g e ⊎ IsSending p rate arrived g e → HasLinkEnds rate (bare (e ∷ g))
+ends_step : (p : Policy) (rate seed : ℕ) (arrived : List Arrival) (g : List LabelledEvent) (e : LabelledEvent) → IsLawful p → HasLinkEnds rate (unlabelled g)
+    → IsOffer p rate seed arrived g e ⊎ IsSending p rate arrived g e → HasLinkEnds rate (unlabelled (e ∷ g))
 ends_step p rate seed arrived g e law x (inl y) =
-    let P : Event → Type 0 = λ z. HasLinkEnds rate (z ∷ bare g) in subst P (sym (offer_event p rate seed arrived g e y)) x
+    let P : Event → Type 0 = λ z. HasLinkEnds rate (z ∷ unlabelled g) in subst P (sym (offer_event p rate seed arrived g e y)) x
 ends_step p rate seed arrived g e law x (inr y) =
-    let P : Event → Type 0 = λ z. HasLinkEnds rate (z ∷ bare g) in
+    let P : Event → Type 0 = λ z. HasLinkEnds rate (z ∷ unlabelled g) in
     subst P (sym y.event) ((starts_late p rate arrived g e law y).after_free, y.end, x)
 
-pub link_ends : (p : Policy) (rate seed : ℕ) (arrived : List Arrival) (g : List Happened) → IsLawful p → EachFollows p rate seed arrived g → HasLinkEnds rate (bare g)
+pub link_ends : (p : Policy) (rate seed : ℕ) (arrived : List Arrival) (g : List LabelledEvent) → IsLawful p → EachFollows p rate seed arrived g → HasLinkEnds rate (unlabelled g)
 link_ends p rate seed arrived [] law f = tt
 link_ends p rate seed arrived (e ∷ g) law f = ends_step p rate seed arrived g e law (link_ends p rate seed arrived g law f.1) f.0

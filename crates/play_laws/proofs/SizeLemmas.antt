@@ -7,11 +7,11 @@ use Rattle.std.proofs.lemmas.Grind.{common_steps}
 use Rattle.capture_model.specs.Capture.{Form, Record, Step, Next, Header, Formed, Unformed, Stand, Reads, ReadsFrom, header, step, word, longest, most_records, most_bytes}
 use Rattle.capture_model.proofs.OutcomeLemmas.{is_next, told_at}
 use Rattle.capture_model.specs.Header.{capture_header, record_header}
-use Rattle.capture_model.specs.Written.{record_text, record_texts, written, IsWithin, AreWithin}
+use Rattle.capture_model.specs.Written.{record_text, record_texts, written, FitsCapture, AreWithin}
 use Rattle.altq_model.specs.declared.Placed.{Placed}
 use Rattle.altq_model.specs.Arrivals.{Captured, arrival, arrivals_from, arrivals_of, bare_arrivals, no_arrival}
 use Rattle.altq_model.specs.Departures.{Dressing, KeepsLength, departed_by, departed}
-use Rattle.altq_model.specs.History.{Arrival, Event, Offered, Sent, Happened, bare, offered, was_marked, decided, journal}
+use Rattle.altq_model.specs.History.{Arrival, Event, Offered, Sent, LabelledEvent, unlabelled, offered, was_marked, decided, journal}
 use Rattle.altq_model.specs.Idle.{sent, sent_of}
 use Rattle.altq_model.specs.Laws.{occurs, IsInTime, EndsInTime}
 use Rattle.altq_model.specs.Play.{Policy}
@@ -137,22 +137,22 @@ fit_place (x ∷ xs) (suc k) c h e = fit_place xs k c h.1 e
 -- each record of the departures is within the limits
 abbrev EachWithin : List Record → Type 0
 EachWithin [] = Unit {0}
-EachWithin (r ∷ rs) = IsWithin r × EachWithin rs
+EachWithin (r ∷ rs) = FitsCapture r × EachWithin rs
 
 each_push : (rs ds : List Record) → EachWithin rs → EachWithin ds → EachWithin (rs ++ ds)
 each_push [] ds x y = y
 each_push (r ∷ rs) ds x y = (x.0, each_push rs ds x.1 y)
 
-each_at : (rs : List Record) → EachWithin rs → All IsWithin rs
+each_at : (rs : List Record) → EachWithin rs → All FitsCapture rs
 each_at [] x = λ k d l. absurd (omega arith)
 each_at (r ∷ rs) x = λ k d l. at_place r rs x k d l
   where
-    at_place : (r : Record) (rs : List Record) → EachWithin (r ∷ rs) → (k : ℕ) (d : Record) → k < length (r ∷ rs) → IsWithin (get_or (r ∷ rs) k d)
+    at_place : (r : Record) (rs : List Record) → EachWithin (r ∷ rs) → (k : ℕ) (d : Record) → k < length (r ∷ rs) → FitsCapture (get_or (r ∷ rs) k d)
     at_place r rs x zero d l = x.0
     at_place r [] x (suc k) d l = absurd (omega arith)
     at_place r (s ∷ rs) x (suc k) d l = at_place s rs x.1 k d (omega (arith, l))
 
-departure_within : (dress : Dressing) (arrived : List Captured) (n : ℕ) (e : Event) (g : List Happened) → KeepsLength dress → AreFit arrived → IsOfArrival (bare_arrivals arrived) n e
+departure_within : (dress : Dressing) (arrived : List Captured) (n : ℕ) (e : Event) (g : List LabelledEvent) → KeepsLength dress → AreFit arrived → IsOfArrival (bare_arrivals arrived) n e
     → EndsInTime e → EachWithin (departed_by dress arrived n e g)
 departure_within dress arrived n (Offered a w v) g k f x t = tt
 departure_within dress arrived n (Sent s) g k f x t =
@@ -161,7 +161,7 @@ departure_within dress arrived n (Sent s) g k f x t =
     let same = k a.class (was_marked n g) a.bytes in
     (record { stamp = t; captured = omega (arith, same, y.captured); original = y.original; some = omega (arith, y.some) }, tt)
 
-each_within : (dress : Dressing) (arrived : List Captured) (g : List Happened) → KeepsLength dress → AreFit arrived → AreOfArrivals (bare_arrivals arrived) g → IsInTime g
+each_within : (dress : Dressing) (arrived : List Captured) (g : List LabelledEvent) → KeepsLength dress → AreFit arrived → AreOfArrivals (bare_arrivals arrived) g → IsInTime g
     → EachWithin (departed dress arrived g)
 each_within dress arrived [] k f x t = tt
 each_within dress arrived (e ∷ g) k f x t =
@@ -268,22 +268,22 @@ weight_push : (rs ds : List Record) → weight (rs ++ ds) ≡ weight rs + weight
 weight_push [] ds = omega arith
 weight_push (r ∷ rs) ds = omega (arith, weight_push rs ds)
 
-event_weight : (dress : Dressing) (arrived : List Captured) (n : ℕ) (e : Event) (g : List Happened) (ns : List ℕ) → KeepsLength dress
+event_weight : (dress : Dressing) (arrived : List Captured) (n : ℕ) (e : Event) (g : List LabelledEvent) (ns : List ℕ) → KeepsLength dress
     → weight (departed_by dress arrived n e g) + weigh (burden arrived) ns ≡ weigh (burden arrived) (sent_of n e ns)
 event_weight dress arrived n (Offered a w v) g ns k = omega arith
 event_weight dress arrived n (Sent s) g ns k = omega (arith, k (arrival arrived n).class (was_marked n g) (arrival arrived n).bytes)
 
-departed_weight : (dress : Dressing) (arrived : List Captured) (g : List Happened) → KeepsLength dress → weight (departed dress arrived g) ≡ weigh (burden arrived) (sent g)
+departed_weight : (dress : Dressing) (arrived : List Captured) (g : List LabelledEvent) → KeepsLength dress → weight (departed dress arrived g) ≡ weigh (burden arrived) (sent g)
 departed_weight dress arrived [] k = refl
 departed_weight dress arrived (e ∷ g) k =
     let d : List Record = departed_by dress arrived e.label e.what g in
     omega (arith, weight_push (departed dress arrived g) d, departed_weight dress arrived g k, event_weight dress arrived e.label e.what g (sent g) k)
 
-event_count : (dress : Dressing) (arrived : List Captured) (n : ℕ) (e : Event) (g : List Happened) → length (departed_by dress arrived n e g) ≤ length (decided n e)
+event_count : (dress : Dressing) (arrived : List Captured) (n : ℕ) (e : Event) (g : List LabelledEvent) → length (departed_by dress arrived n e g) ≤ length (decided n e)
 event_count dress arrived n (Offered a w v) g = omega arith
 event_count dress arrived n (Sent s) g = omega arith
 
-departed_count : (dress : Dressing) (arrived : List Captured) (g : List Happened) → length (departed dress arrived g) ≤ length (journal g)
+departed_count : (dress : Dressing) (arrived : List Captured) (g : List LabelledEvent) → length (departed dress arrived g) ≤ length (journal g)
 departed_count dress arrived [] = omega arith
 departed_count dress arrived (e ∷ g) =
     let d : List Record = departed_by dress arrived e.label e.what g in
@@ -293,14 +293,14 @@ in_range : (n m count : ℕ) → m ≤ count → (if nat_lt 0 n && nat_le n m th
 in_range n m count l = grind (arith, common_steps, l)
 
 -- the departures are within the limits of a capture
-pub departed_within : (dress : Dressing) (mark : List ℕ → Placed) (records : List Record) (p : Policy) (rate seed : ℕ) (g : List Happened) → KeepsLength dress → AreSized records
+pub departed_within : (dress : Dressing) (mark : List ℕ → Placed) (records : List Record) (p : Policy) (rate seed : ℕ) (g : List LabelledEvent) → KeepsLength dress → AreSized records
     → HasLaws p rate seed (bare_arrivals (arrivals_of mark records)) g → IsInTime g → AreWithin (departed dress (arrivals_of mark records) g)
 departed_within dress mark records p rate seed g k s x t =
     let arrived : List Captured = arrivals_of mark records in
     let long = bare_arrivals_length arrived in
     let many = count_from mark 0 records in
     let all = distinct (burden arrived) 1 (length arrived) (sent g) (λ n.
-    omega (arith, split n g, x.once n, in_range n (offered (bare g)) (length arrived) (omega (arith, x.came, long)))) in
+    omega (arith, split n g, x.once n, in_range n (offered (unlabelled g)) (length arrived) (omega (arith, x.came, long)))) in
     let sum = upto_load (burden arrived) 1 arrived (burden_at arrived) in
     record {
       each = each_at (departed dress arrived g) (each_within dress arrived g k (fit_from mark 0 records s.each) x.of_arrivals t);

@@ -3,7 +3,7 @@ use Rattle.std.proofs.Common.{◌≡◌, ◌≤◌, ◌<◌, ◌∙◌, ◌⊎�
 use Rattle.std.specs.Prelude.{slice_get, ◌==◌, ◌&&◌}
 use Rattle.std.specs.declared.option.Option.{Option}
 use Rattle.altq_model.specs.declared.Verdict.{Verdict}
-use Rattle.altq_model.specs.History.{Arrival, Answer, DrawnWords, Event, Offered, Sent, Sending, Happened, bare, offered, drawn, head, waiting, is_kept, with_offer, without_head}
+use Rattle.altq_model.specs.History.{Arrival, Answer, DrawnWords, Event, Offered, Sent, Sending, LabelledEvent, unlabelled, offered, drawn, head, waiting, is_kept, with_offer, without_head}
 use Rattle.altq_model.specs.Link.{link, end_of}
 use Rattle.altq_model.specs.Play.{Policy, lesser, class_start, first_start, due, AreDue}
 use Rattle.altq_model.specs.Lawful.{IsOneOf, IsHead, IsLawful, HaveArrived, RiseFrom, AreRising, IsSteady, latest, start_at, first_at}
@@ -140,16 +140,16 @@ on_time_sent p rate arrived h s pos law l t = record {
   comes = t.comes;
 }
 
-on_time_step : (p : Policy) (rate seed : ℕ) (arrived : List Arrival) (g : List Happened) (e : Happened) → 0 < rate → IsLawful p → AreRising arrived
-    → IsOnTime p rate arrived (bare g) → IsOffer p rate seed arrived g e ⊎ IsSending p rate arrived g e → IsOnTime p rate arrived (bare (e ∷ g))
+on_time_step : (p : Policy) (rate seed : ℕ) (arrived : List Arrival) (g : List LabelledEvent) (e : LabelledEvent) → 0 < rate → IsLawful p → AreRising arrived
+    → IsOnTime p rate arrived (unlabelled g) → IsOffer p rate seed arrived g e ⊎ IsSending p rate arrived g e → IsOnTime p rate arrived (unlabelled (e ∷ g))
 on_time_step p rate seed arrived g e pos law rise t (inl x) =
-    let P : Event → Type 0 = λ y. IsOnTime p rate arrived (y ∷ bare g) in
-    let w : DrawnWords = record { seed = seed; drawn = drawn (bare g) } in
+    let P : Event → Type 0 = λ y. IsOnTime p rate arrived (y ∷ unlabelled g) in
+    let w : DrawnWords = record { seed = seed; drawn = drawn (unlabelled g) } in
     subst P (sym (offer_event p rate seed arrived g e x))
-    (on_time_offer p rate arrived (bare g) x.packet w (p.answer (bare g) w x.packet) law rise x.next x.first t)
+    (on_time_offer p rate arrived (unlabelled g) x.packet w (p.answer (unlabelled g) w x.packet) law rise x.next x.first t)
 on_time_step p rate seed arrived g e pos law rise t (inr x) =
-    let P : Event → Type 0 = λ y. IsOnTime p rate arrived (y ∷ bare g) in
-    subst P (sym x.event) (on_time_sent p rate arrived (bare g) x.sending pos law (t.starts x.sending.class x.sending.start x.may.held x.may.start) t)
+    let P : Event → Type 0 = λ y. IsOnTime p rate arrived (y ∷ unlabelled g) in
+    subst P (sym x.event) (on_time_sent p rate arrived (unlabelled g) x.sending pos law (t.starts x.sending.class x.sending.start x.may.held x.may.start) t)
 
 pub have_arrived : (p : Policy) (rate : ℕ) (arrived : List Arrival) (h : List Event) (s : ℕ) → IsOnTime p rate arrived h
     → first_start p (link rate h).free h p.classes ≡ Some s → HaveArrived p s h
@@ -158,18 +158,18 @@ have_arrived p rate arrived h s t f =
     let l : latest h ≤ s = t.starts x.class s x.one x.start in
     λ c a i e. omega (arith, head_latest c h a e, l)
 
-pub follows : (p : Policy) (rate seed : ℕ) (arrived : List Arrival) (g : List Happened) (e : Happened) → IsLawful p → IsOnTime p rate arrived (bare g)
+pub follows : (p : Policy) (rate seed : ℕ) (arrived : List Arrival) (g : List LabelledEvent) (e : LabelledEvent) → IsLawful p → IsOnTime p rate arrived (unlabelled g)
     → due p rate seed arrived g ≡ Some e → IsOffer p rate seed arrived g e ⊎ IsSending p rate arrived g e
-follows p rate seed arrived g e law t d = due_is p rate seed arrived g e law (λ s f. have_arrived p rate arrived (bare g) s t f) d
+follows p rate seed arrived g e law t d = due_is p rate seed arrived g e law (λ s f. have_arrived p rate arrived (unlabelled g) s t f) d
 
-pub on_time : (p : Policy) (rate seed : ℕ) (arrived : List Arrival) (g : List Happened) → 0 < rate → IsLawful p → AreRising arrived
-    → AreDue p rate seed arrived g → IsOnTime p rate arrived (bare g)
+pub on_time : (p : Policy) (rate seed : ℕ) (arrived : List Arrival) (g : List LabelledEvent) → 0 < rate → IsLawful p → AreRising arrived
+    → AreDue p rate seed arrived g → IsOnTime p rate arrived (unlabelled g)
 on_time p rate seed arrived [] pos law rise d = on_time_first p rate arrived
 on_time p rate seed arrived (e ∷ g) pos law rise d =
     let t = on_time p rate seed arrived g pos law rise d.1 in
     on_time_step p rate seed arrived g e pos law rise t (follows p rate seed arrived g e law t d.0)
 
-pub each_follows : (p : Policy) (rate seed : ℕ) (arrived : List Arrival) (g : List Happened) → 0 < rate → IsLawful p → AreRising arrived
+pub each_follows : (p : Policy) (rate seed : ℕ) (arrived : List Arrival) (g : List LabelledEvent) → 0 < rate → IsLawful p → AreRising arrived
     → AreDue p rate seed arrived g → EachFollows p rate seed arrived g
 each_follows p rate seed arrived [] pos law rise d = tt
 each_follows p rate seed arrived (e ∷ g) pos law rise d =
@@ -199,19 +199,19 @@ same_firsts p rate arrived h (c ∷ cs) law s t i =
     ap (λ (o : Option ℕ). lesser o (first_start p (link rate h).free h cs)) x
     ∙ ap (λ (o : Option ℕ). lesser (start_at p (max (link rate h).free (latest h)) h c) o) y
 
-pub one_moment : (p : Policy) (rate seed : ℕ) (arrived : List Arrival) (g : List Happened) → 0 < rate → IsLawful p → IsSteady p → AreRising arrived
+pub one_moment : (p : Policy) (rate seed : ℕ) (arrived : List Arrival) (g : List LabelledEvent) → 0 < rate → IsLawful p → IsSteady p → AreRising arrived
     → AreDue p rate seed arrived g
-    → first_start p (link rate (bare g)).free (bare g) p.classes ≡ first_at p (max (link rate (bare g)).free (latest (bare g))) (bare g) p.classes
+    → first_start p (link rate (unlabelled g)).free (unlabelled g) p.classes ≡ first_at p (max (link rate (unlabelled g)).free (latest (unlabelled g))) (unlabelled g) p.classes
 one_moment p rate seed arrived g pos law s rise d =
-    same_firsts p rate arrived (bare g) p.classes law s (on_time p rate seed arrived g pos law rise d) (λ c i. i)
+    same_firsts p rate arrived (unlabelled g) p.classes law s (on_time p rate seed arrived g pos law rise d) (λ c i. i)
 
-pub all_arrived : (p : Policy) (rate seed : ℕ) (arrived : List Arrival) (g : List Happened) → 0 < rate → IsLawful p → AreRising arrived
-    → AreDue p rate seed arrived g → (s : ℕ) → first_start p (link rate (bare g)).free (bare g) p.classes ≡ Some s → latest (bare g) ≤ s
+pub all_arrived : (p : Policy) (rate seed : ℕ) (arrived : List Arrival) (g : List LabelledEvent) → 0 < rate → IsLawful p → AreRising arrived
+    → AreDue p rate seed arrived g → (s : ℕ) → first_start p (link rate (unlabelled g)).free (unlabelled g) p.classes ≡ Some s → latest (unlabelled g) ≤ s
 all_arrived p rate seed arrived g pos law rise d = λ s f.
-    let x = first_of p (link rate (bare g)).free (bare g) p.classes s f in
+    let x = first_of p (link rate (unlabelled g)).free (unlabelled g) p.classes s f in
     (on_time p rate seed arrived g pos law rise d).starts x.class s x.one x.start
 
-pub next_later : (p : Policy) (rate seed : ℕ) (arrived : List Arrival) (g : List Happened) → 0 < rate → IsLawful p → AreRising arrived
-    → AreDue p rate seed arrived g → (a : Arrival) → slice_get arrived (offered (bare g)) ≡ Some a → latest (bare g) ≤ a.at
+pub next_later : (p : Policy) (rate seed : ℕ) (arrived : List Arrival) (g : List LabelledEvent) → 0 < rate → IsLawful p → AreRising arrived
+    → AreDue p rate seed arrived g → (a : Arrival) → slice_get arrived (offered (unlabelled g)) ≡ Some a → latest (unlabelled g) ≤ a.at
 next_later p rate seed arrived g pos law rise d = λ a e.
-    (on_time p rate seed arrived g pos law rise d).comes (offered (bare g)) a (omega arith) e
+    (on_time p rate seed arrived g pos law rise d).comes (offered (unlabelled g)) a (omega arith) e

@@ -7,7 +7,7 @@ ghost use Rattle.altq_model.specs.declared.Placed.{Placed};
 ghost use Rattle.altq_model.specs.declared.Rule.{Rule};
 ghost use Rattle.altq_model.specs.Arrivals.{Captured, arrival, arrivals_from, arrivals_of, bare_arrival, bare_arrivals};
 ghost use Rattle.capture_model.specs.Capture.{Reads, Record, Step};
-ghost use Rattle.altq_model.specs.History.{Arrival, Decision, Happened, Event, bare, journal, offered};
+ghost use Rattle.altq_model.specs.History.{Arrival, Decision, LabelledEvent, Event, unlabelled, journal, offered};
 ghost use Rattle.altq_model.specs.Laws.{IsInTime, KeepsLaws, at_of};
 ghost use Rattle.capture_model.specs.Written.{AreWithin, record_texts, written};
 ghost use Rattle.altq_model.specs.Busy.{IsBusy, IsLeastStart};
@@ -63,7 +63,7 @@ pub fn policies_by_moments_are_lawful()
 /// with its class and length; no number has two fates; each class departs in order of number, no packet starts before it arrives, and
 /// each end is that of its run.
 pub fn due_events_keep_the_laws()
-    ensures laws { (p : Policy) (rate seed : ℕ) (arrived : List Arrival) (g : List Happened) → 0 < rate → IsLawful p → AreRising arrived
+    ensures laws { (p : Policy) (rate seed : ℕ) (arrived : List Arrival) (g : List LabelledEvent) → 0 < rate → IsLawful p → AreRising arrived
         → AreDue p rate seed arrived g → HasLaws p rate seed arrived g }
 {}
 
@@ -71,9 +71,9 @@ pub fn due_events_keep_the_laws()
 /// departs in order of number, no packet starts before it arrives, and each end is that of its run. At the end every arrival was
 /// offered, and nothing waits.
 pub fn plays_keep_the_laws()
-    ensures laws { (p : Policy) (rate seed : ℕ) (arrived : List Arrival) (g : List Happened) → 0 < rate → IsLawful p → AreRising arrived
+    ensures laws { (p : Policy) (rate seed : ℕ) (arrived : List Arrival) (g : List LabelledEvent) → 0 < rate → IsLawful p → AreRising arrived
         → AreHeld p arrived → IsPlay p rate seed arrived g → KeepsLaws rate arrived g }
-    ensures whole { (p : Policy) (rate seed : ℕ) (arrived : List Arrival) (g : List Happened) → 0 < rate → IsLawful p → AreRising arrived
+    ensures whole { (p : Policy) (rate seed : ℕ) (arrived : List Arrival) (g : List LabelledEvent) → 0 < rate → IsLawful p → AreRising arrived
         → AreHeld p arrived → IsPlay p rate seed arrived g → IsWhole arrived g }
 {}
 
@@ -86,14 +86,15 @@ pub fn ends_are_those_of_the_runs()
 /// The link is busy: each sending starts at the least moment, not before the last end, such that after the offers of all arrivals up
 /// to it some waiting class may send at it. It holds of the first events of a play of a steady policy, however many.
 pub fn link_is_busy()
-    ensures busy { (p : Policy) (rate seed : ℕ) (arrived : List Arrival) (g : List Happened) → 0 < rate → IsLawful p → IsSteady p → AreRising arrived
-        → AreDue p rate seed arrived g → IsBusy p rate (bare g) }
+    ensures busy { (p : Policy) (rate seed : ℕ) (arrived : List Arrival) (g : List LabelledEvent) → 0 < rate → IsLawful p → IsSteady p → AreRising arrived
+        → AreDue p rate seed arrived g → IsBusy p rate (unlabelled g) }
 {}
 
 /// Where any class may send at any moment, the link never idles: each sending starts at the greater of the last end and the least
 /// arrival of those that are left. It holds of the first events of a play, however many.
 pub fn link_never_idles()
-    ensures never_idles { (p : Policy) (rate seed : ℕ) (arrived : List Arrival) (g : List Happened) → 0 < rate → IsLawful p → NeverWaits p → AreRising arrived
+    ensures never_idles { (p : Policy) (rate seed : ℕ) (arrived : List Arrival) (g : List LabelledEvent) → 0 < rate → IsLawful p → NeverWaits p
+        → AreRising arrived
         → AreHeld p arrived → AreDue p rate seed arrived g → NeverIdles rate arrived g }
 {}
 
@@ -103,34 +104,35 @@ pub fn link_never_idles()
 pub fn busy_is_never_idle()
     ensures same { (p : Policy) (free : ℕ) (h : List Event) (s : ℕ) → NeverWaits p → ComeInOrder free h
         → IsLeastStart p free h s ↔ StartsWithHead p free h s }
-    ensures order { (p : Policy) (rate seed : ℕ) (arrived : List Arrival) (g : List Happened) → 0 < rate → IsLawful p → AreRising arrived
-        → AreDue p rate seed arrived g → ComeInOrder (link rate (bare g)).free (bare g) }
+    ensures order { (p : Policy) (rate seed : ℕ) (arrived : List Arrival) (g : List LabelledEvent) → 0 < rate → IsLawful p → AreRising arrived
+        → AreDue p rate seed arrived g → ComeInOrder (link rate (unlabelled g)).free (unlabelled g) }
 {}
 
 /// In a play a steady policy may be asked from one moment for all classes: the greater of the last end and the greatest arrival of
 /// what was offered. No class may send before that arrival, and what comes next is no earlier.
 pub fn one_moment_serves_all_classes()
-    ensures moment { (p : Policy) (rate seed : ℕ) (arrived : List Arrival) (g : List Happened) → 0 < rate → IsLawful p → IsSteady p → AreRising arrived
+    ensures moment { (p : Policy) (rate seed : ℕ) (arrived : List Arrival) (g : List LabelledEvent) → 0 < rate → IsLawful p → IsSteady p → AreRising arrived
         → AreDue p rate seed arrived g
-        → first_start p (link rate (bare g)).free (bare g) p.classes
-        ≡ first_at p (max (link rate (bare g)).free (latest (bare g))) (bare g) p.classes }
-    ensures arrived { (p : Policy) (rate seed : ℕ) (arrived : List Arrival) (g : List Happened) → 0 < rate → IsLawful p → AreRising arrived
-        → AreDue p rate seed arrived g → (s : ℕ) → first_start p (link rate (bare g)).free (bare g) p.classes ≡ Some s → latest (bare g) ≤ s }
-    ensures next { (p : Policy) (rate seed : ℕ) (arrived : List Arrival) (g : List Happened) → 0 < rate → IsLawful p → AreRising arrived
-        → AreDue p rate seed arrived g → (a : Arrival) → slice_get arrived (offered (bare g)) ≡ Some a → latest (bare g) ≤ a.at }
+        → first_start p (link rate (unlabelled g)).free (unlabelled g) p.classes
+        ≡ first_at p (max (link rate (unlabelled g)).free (latest (unlabelled g))) (unlabelled g) p.classes }
+    ensures arrived { (p : Policy) (rate seed : ℕ) (arrived : List Arrival) (g : List LabelledEvent) → 0 < rate → IsLawful p → AreRising arrived
+        → AreDue p rate seed arrived g → (s : ℕ) → first_start p (link rate (unlabelled g)).free (unlabelled g) p.classes ≡ Some s → latest (unlabelled g) ≤ s }
+    ensures next { (p : Policy) (rate seed : ℕ) (arrived : List Arrival) (g : List LabelledEvent) → 0 < rate → IsLawful p → AreRising arrived
+        → AreDue p rate seed arrived g → (a : Arrival) → slice_get arrived (offered (unlabelled g)) ≡ Some a → latest (unlabelled g) ≤ a.at }
 {}
 
 /// The play is one: of two histories of due events the shorter is the older part of the longer, so two plays of the same policy,
 /// rate, seed and arrivals are the same; for a lawful policy there is one, which `play` computes. Events before the offer of the
 /// last known arrival, and that offer, are the same whatever comes later.
 pub fn the_play_is_one()
-    ensures older_part { (p : Policy) (rate seed : ℕ) (arrived : List Arrival) (g k : List Happened) → AreDue p rate seed arrived g
+    ensures older_part { (p : Policy) (rate seed : ℕ) (arrived : List Arrival) (g k : List LabelledEvent) → AreDue p rate seed arrived g
         → AreDue p rate seed arrived k → length g ≤ length k → drop (length k - length g) k ≡ g }
-    ensures one { (p : Policy) (rate seed : ℕ) (arrived : List Arrival) (g k : List Happened) → IsPlay p rate seed arrived g
+    ensures one { (p : Policy) (rate seed : ℕ) (arrived : List Arrival) (g k : List LabelledEvent) → IsPlay p rate seed arrived g
         → IsPlay p rate seed arrived k → g ≡ k }
     ensures exists { (p : Policy) (rate seed : ℕ) (arrived : List Arrival) → 0 < rate → IsLawful p → AreRising arrived
         → IsPlay p rate seed arrived (play p rate seed arrived) }
-    ensures later_arrivals { (p : Policy) (rate seed : ℕ) (arrived more : List Arrival) (e : Happened) (g : List Happened) → offered (bare g) < length arrived
+    ensures later_arrivals { (p : Policy) (rate seed : ℕ) (arrived more : List Arrival) (e : LabelledEvent) (g : List LabelledEvent)
+        → offered (unlabelled g) < length arrived
         → AreDue p rate seed arrived (e ∷ g) → AreDue p rate seed (arrived ++ more) (e ∷ g) }
 {}
 
@@ -138,7 +140,7 @@ pub fn the_play_is_one()
 /// time, are within the limits of one: so they read back as a capture of just these records, where frames keep their lengths.
 pub fn departures_are_within()
     ensures sized { (bytes : List ℕ) (records : List Record) (last : Step) → Reads bytes records last → AreSized records }
-    ensures within { (dress : Dressing) (mark : List ℕ → Placed) (records : List Record) (p : Policy) (rate seed : ℕ) (g : List Happened)
+    ensures within { (dress : Dressing) (mark : List ℕ → Placed) (records : List Record) (p : Policy) (rate seed : ℕ) (g : List LabelledEvent)
         → KeepsLength dress → AreSized records → HasLaws p rate seed (bare_arrivals (arrivals_of mark records)) g → IsInTime g
         → AreWithin (departed dress (arrivals_of mark records) g) }
 {}
@@ -150,7 +152,7 @@ pub fn counts_add_up()
         → of_arrivals meant amount (xs ++ ys) ≡ of_arrivals meant amount xs + of_arrivals meant amount ys }
     ensures decisions { (meant : Captured → Bool) (told : Fate → Bool) (amount : Captured → ℕ) (arrived : List Captured) (xs ys : List Decision)
         → of_decisions meant told amount arrived (xs ++ ys) ≡ of_decisions meant told amount arrived xs + of_decisions meant told amount arrived ys }
-    ensures stay { (meant : Captured → Bool) (told : Fate → Bool) (amount : Captured → ℕ) (arrived more : List Captured) (g : List Happened)
+    ensures stay { (meant : Captured → Bool) (told : Fate → Bool) (amount : Captured → ℕ) (arrived more : List Captured) (g : List LabelledEvent)
         → AreOfArrivals (bare_arrivals arrived) g
         → of_decisions meant told amount (arrived ++ more) (journal g) ≡ of_decisions meant told amount arrived (journal g) }
 {}
@@ -158,12 +160,12 @@ pub fn counts_add_up()
 /// The journal of more events begins with that of the older ones, as do the records of their departures, and so does the text of more
 /// records. The departures of packets that arrived are the same, whatever arrives later.
 pub fn journals_extend()
-    ensures journal { (es g : List Happened) → journal (es ++ g) ≡ journal g ++ journal es }
+    ensures journal { (es g : List LabelledEvent) → journal (es ++ g) ≡ journal g ++ journal es }
     ensures records { (xs ys : List Record) → written (xs ++ ys) ≡ written xs ++ record_texts ys }
-    ensures departed { (dress : Dressing) (arrived : List Captured) (es g : List Happened)
+    ensures departed { (dress : Dressing) (arrived : List Captured) (es g : List LabelledEvent)
         → (more : List Record) × (departed dress arrived (es ++ g) ≡ departed dress arrived g ++ more) }
-    ensures departures { (dress : Dressing) (arrived : List Captured) (es g : List Happened)
+    ensures departures { (dress : Dressing) (arrived : List Captured) (es g : List LabelledEvent)
         → (more : List Record) × (departures dress arrived (es ++ g) ≡ departures dress arrived g ++ record_texts more) }
-    ensures departed_stay { (dress : Dressing) (arrived more : List Captured) (g : List Happened) → AreOfArrivals (bare_arrivals arrived) g
+    ensures departed_stay { (dress : Dressing) (arrived more : List Captured) (g : List LabelledEvent) → AreOfArrivals (bare_arrivals arrived) g
         → departed dress (arrived ++ more) g ≡ departed dress arrived g }
 {}

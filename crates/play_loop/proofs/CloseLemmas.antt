@@ -3,7 +3,7 @@ use Rattle.std.proofs.Common.{◌≡◌, ◌++◌, ◌∙◌, ℕ, List, [], Non
 use Rattle.std.specs.Prelude.{IsSome, IsTrue}
 use Rattle.altq_model.specs.Arrivals.{Captured, bare_arrivals}
 use Rattle.altq_model.specs.Departures.{KeepsLength}
-use Rattle.altq_model.specs.History.{DrawnWords, Happened, journal}
+use Rattle.altq_model.specs.History.{DrawnWords, LabelledEvent, journal}
 use Rattle.altq_model.specs.Lawful.{AreHeld}
 use Rattle.altq_model.specs.Play.{due}
 use Rattle.capture_model.specs.Capture.{End, IsLast, Reads, Record, Step, outcome}
@@ -11,7 +11,7 @@ use Rattle.pcap_files.specs.declared.fault.CaptureFault.{CaptureFault}
 use Rattle.pcap_files.specs.declared.fault.CaptureFault.TheVariants as capture
 use Rattle.pcap_files.specs.declared.reader.Reader.{Reader}
 use Rattle.pcap_files.specs.Ahead.{TookSome}
-use Rattle.pcap_files.specs.Reading.{StandsFor}
+use Rattle.pcap_files.specs.Reading.{Represents}
 use Rattle.pcap_files.proofs.WritingLemmas.{reads_written}
 use Rattle.play_base.specs.Holds.{Apart}
 use Rattle.play_base.specs.View.{View, ReadFault, SameCounts}
@@ -54,7 +54,7 @@ fault_before capture.Read = tt
 fault_before capture.NoMemory = tt
 
 -- a write that failed
-pub broken_off : {x : Setup} {stood : List Happened → Type 0} (u v : View) (o : Opened) (f : PlayFault) → IsWriteCause o.departures o.fates u v f → Fronts x u v o
+pub broken_off : {x : Setup} {stood : List LabelledEvent → Type 0} (u v : View) (o : Opened) (f : PlayFault) → IsWriteCause o.departures o.fates u v f → Fronts x u v o
     → IsBrokenOff x stood u v o f
 broken_off {x} {stood} u v o f h front = record {
   why = by_cause (λ q. Explains x stood u v o q) u v f h (λ y. y) (λ y. y) tt;
@@ -63,7 +63,7 @@ broken_off {x} {stood} u v o f h front = record {
 }
 
 -- or a record that was not read, before any was
-pub broken_at_start : {x : Setup} {stood : List Happened → Type 0} (u v : View) (o : Opened) (f : CaptureFault) → Offered x stood u v o f
+pub broken_at_start : {x : Setup} {stood : List LabelledEvent → Type 0} (u v : View) (o : Opened) (f : CaptureFault) → Offered x stood u v o f
     → (f ≡ capture.Read → ReadFault u v o.arrivals) → Fronts x u v o → IsBrokenOff x stood u v o (capture_fault f)
 broken_at_start {x} {stood} u v o f h r front = record { why = explains_capture x stood u v o f h r; front = front; before_stats = fault_before f }
 
@@ -87,7 +87,7 @@ can_read {v = v} {o} {r = r} ready k a e sound =
     record { there = there_same v.part o.arrivals r.file e s.arrivals; sound = sound; from_departures = rw (e, a.departures) s.from_departures; from_fates = rw (e, a.fates) s.from_fates }
 
 pub started : {u v w : View} {o : Opened} (r : Reader) → AreReady u o → OnlyWrote o.departures o.fates u v → TookSome v w o.arrivals
-    → ((rest : List ℕ) → v.left o.arrivals ≡ Some rest → StandsFor w r (o.first.now ++ rest) []) → OfArrivals u o (StartsOn w r)
+    → ((rest : List ℕ) → v.left o.arrivals ≡ Some rest → Represents w r (o.first.now ++ rest) []) → OfArrivals u o (StartsOn w r)
 started r ready x y stands = λ t rest l. (y.1.keeps.tells ∙ x.keeps.tells ∙ t, stands rest (ready_left ready t x ∙ l))
 
 -- the writes at the end leave what the arrivals have left
@@ -113,7 +113,7 @@ pub record HasClosed (x : Setup) (told : List ℕ → Type 0) (m : Moment) (r : 
   pub clean : IsClean e → SameCounts u v
 
 -- every event was made
-whole_play : {x : Setup} {m : Moment} {w : DrawnWords} {arrived : List Captured} {g : List Happened} → IsUnderway x m arrived w g
+whole_play : {x : Setup} {m : Moment} {w : DrawnWords} {arrived : List Captured} {g : List LabelledEvent} → IsUnderway x m arrived w g
     → due x.policy x.rate x.seed (bare_arrivals arrived) g ≡ None → IsFinished x.policy x.rate x.seed arrived g m.progress.totals
 whole_play {x} {m} {arrived = arrived} {g} u d =
     to_setup u.setup (λ p rate seed. IsFinished p rate seed arrived g m.progress.totals)
@@ -122,7 +122,7 @@ whole_play {x} {m} {arrived = arrived} {g} u d =
     (from_setup u.setup (λ p rate seed. due p rate seed (bare_arrivals arrived) g ≡ None) d))
 
 -- what holds of the arrivals and the events of a whole play
-record IsWritten (x : Setup) (m : Moment) (v : View) (o : Opened) (t : Tally) (arrived : List Captured) (g : List Happened) : Type 0 where
+record IsWritten (x : Setup) (m : Moment) (v : View) (o : Opened) (t : Tally) (arrived : List Captured) (g : List LabelledEvent) : Type 0 where
   play : IsFinished x.policy x.rate x.seed arrived g t.totals
   texts : HoldTexts v o x arrived g
   counted : HasCounted x.names arrived (journal g) t.counts.items
@@ -140,7 +140,7 @@ module _ {x : Setup} {told : List ℕ → Type 0} {m : Moment} {r : Reader} {w :
       fronts_first x told u v o y.arrived y.events y.under.setup.sound h.tells y.first (begun_of (on y.under)) whole
 
   answers_whole : (t : Tally) → HasClosed x told m r w u v o ending.Whole → KeepsLength x.dress → t.totals ≡ m.progress.totals → t.counts.items ≡ m.outputs.counts.items
-      → IsWhole x m.shown.stood m.told u v o t
+      → IsWhole x m.shown.represents m.told u v o t
   answers_whole t h k totals counts =
       let y = h.run in
       let going = y.under.going in
@@ -159,7 +159,7 @@ module _ {x : Setup} {told : List ℕ → Type 0} {m : Moment} {r : Reader} {w :
                 texts = written.texts;
                 counted = written.counted;
                 reads = reads_written _ (departed_within x.dress x.place all.records x.policy x.rate x.seed y.events k (reads_sized (o.first.now ++ rest) all.records End all.reads) written.laws going.begun.in_time);
-                stands = (going.told, going.stands, going.same);
+                stands = (going.recorded, going.represents, going.same);
                 was_told = written.was_told;
               },
             );
@@ -168,17 +168,17 @@ module _ {x : Setup} {told : List ℕ → Type 0} {m : Moment} {r : Reader} {w :
         no_fault = h.clean tt;
       }
 
-  answers_cut : (f : CaptureFault) → HasClosed x told m r w u v o (ending.Cut f) → IsBrokenOff x m.shown.stood u v o (capture_fault f)
+  answers_cut : (f : CaptureFault) → HasClosed x told m r w u v o (ending.Cut f) → IsBrokenOff x m.shown.represents u v o (capture_fault f)
   answers_cut f h =
       let y = h.run in
       let going = y.under.going in
       record {
-        why = explains_capture x m.shown.stood u v o f
+        why = explains_capture x m.shown.represents u v o f
             (λ t rest l.
             let q = y.ends.faulty (o.first.now ++ rest) (h.tells t rest l) in (
               q.records,
               cut_later f m.files v r.file o.arrivals (o.first.now ++ rest) q.records (h.left t) h.file q.reads,
-              offered_all y.arrived y.events q.arrivals (begun_of (on y.under)) y.ends.offers y.ends.last h.texts (going.told, going.stands, going.same),
+              offered_all y.arrived y.events q.arrivals (begun_of (on y.under)) y.ends.offers y.ends.last h.texts (going.recorded, going.represents, going.same),
             ))
             (λ q. h.read (ap {B = Ending} (λ (k : CaptureFault). ending.Cut k) q));
         front = closed_front h;
@@ -186,7 +186,7 @@ module _ {x : Setup} {told : List ℕ → Type 0} {m : Moment} {r : Reader} {w :
       }
 
   answers_late : HasClosed x told m r w u v o ending.Late → ((bytes : List ℕ) → Reads bytes (outcome bytes).records (outcome bytes).last)
-      → ((bytes : List ℕ) → IsLast (outcome bytes).last) → IsBrokenOff x m.shown.stood u v o (play.Limit limit.Clock)
+      → ((bytes : List ℕ) → IsLast (outcome bytes).last) → IsBrokenOff x m.shown.represents u v o (play.Limit limit.Clock)
   answers_late h reads is_last =
       let y = h.run in
       let going = y.under.going in
@@ -212,7 +212,7 @@ module _ {x : Setup} {told : List ℕ → Type 0} {m : Moment} {r : Reader} {w :
                   totals = m.progress.totals;
                   play = cut_all x all y.arrived f.0 y.events m.progress.totals sound d.cut f.1 f.2 totals;
                   texts = hold_all x all y.arrived f.0 y.events sound f.1 d.cut.begun.events h.texts;
-                  stands = (going.told, going.stands, going.same);
+                  stands = (going.recorded, going.represents, going.same);
                   before = at.before;
                   streams = at.streams;
                 },
@@ -224,7 +224,7 @@ module _ {x : Setup} {told : List ℕ → Type 0} {m : Moment} {r : Reader} {w :
 
   -- what the play of a capture answers, by how its events ended
   pub closed_answer : (e : Ending) (t : Tally) → HasClosed x told m r w u v o e → KeepsLength x.dress → ((bytes : List ℕ) → Reads bytes (outcome bytes).records (outcome bytes).last)
-      → ((bytes : List ℕ) → IsLast (outcome bytes).last) → t.totals ≡ m.progress.totals → t.counts.items ≡ m.outputs.counts.items → IsAnswer x m.shown.stood m.told u v o (answer_of e t)
+      → ((bytes : List ℕ) → IsLast (outcome bytes).last) → t.totals ≡ m.progress.totals → t.counts.items ≡ m.outputs.counts.items → IsAnswer x m.shown.represents m.told u v o (answer_of e t)
   closed_answer ending.Whole t h k reads is_last totals counts = answers_whole t h k totals counts
   closed_answer (ending.Cut f) t h k reads is_last totals counts = answers_cut f h
   closed_answer ending.Late t h k reads is_last totals counts = answers_late h reads is_last

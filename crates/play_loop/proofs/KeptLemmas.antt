@@ -3,7 +3,7 @@ use Rattle.std.proofs.Common.{◌≡◌, ◌≢◌, ◌∙◌, ℕ, List, Ok, Er
 use Rattle.std.specs.Prelude.{IsErrOf, IsSome}
 use Rattle.play_base.specs.declared.trouble.Trouble.{Trouble}
 use Rattle.play_base.specs.declared.trouble.Trouble.TheVariants as trouble
-use Rattle.play_base.specs.View.{View, Keeps, Any, WriteFault, Wrote}
+use Rattle.play_base.specs.View.{View, Keeps, Everything, WriteFault, Wrote}
 use Rattle.play_base.proofs.ViewLaws.{keeps_fewer, keeps_refl, later_trans, part_of_there, rose_later, same_refl, same_trans as same_counts}
 use Rattle.pcap_files.specs.Ahead.{TookSome}
 use Rattle.play_loop.specs.declared.fault.Opened.{Opened}
@@ -49,10 +49,10 @@ keeps_more E u v w dep fat is_dep is_fat x y =
 
 only_more : {u v w : View} {dep fat : ℕ} → IsSome (u.part dep) → IsSome (u.part fat) → OnlyWrote dep fat u v → OnlyWrote dep fat v w → OnlyWrote dep fat u w
 only_more {u} {v} {w} {dep} {fat} is_dep is_fat x y =
-    let a : KeepsOf Any dep fat u v = keeps_fewer _ _ _ _ _ _ (λ n h. h) (λ f h. h.1) x.keeps in
-    let b : KeepsOf Any dep fat v w = keeps_fewer _ _ _ _ _ _ (λ n h. h) (λ f h. h.1) y.keeps in
+    let a : KeepsOf Everything dep fat u v = keeps_fewer _ _ _ _ _ _ (λ n h. h) (λ f h. h.1) x.keeps in
+    let b : KeepsOf Everything dep fat v w = keeps_fewer _ _ _ _ _ _ (λ n h. h) (λ f h. h.1) y.keeps in
     record {
-      keeps = keeps_fewer _ _ _ _ _ _ (λ n h. h) (λ f h. (tt, h)) (keeps_more Any u v w dep fat is_dep is_fat a b);
+      keeps = keeps_fewer _ _ _ _ _ _ (λ n h. h) (λ f h. (tt, h)) (keeps_more Everything u v w dep fat is_dep is_fat a b);
       none = λ f h. y.none f (x.none f h);
       said = y.said ∙ x.said;
     }

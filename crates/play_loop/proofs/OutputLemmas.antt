@@ -4,7 +4,7 @@ use Rattle.std.proofs.lemmas.List.{append-nil}
 use Rattle.std.specs.Prelude.{IsSome, Result}
 use Rattle.std.specs.declared.option.Option.{Option}
 use Rattle.capture_model.specs.Header.{capture_header}
-use Rattle.play_base.specs.View.{View, Any, Keeps, Wrote, WroteFront}
+use Rattle.play_base.specs.View.{View, Everything, Keeps, Wrote, WroteFront}
 use Rattle.play_base.proofs.HoldsLaws.{apart_kept, apart_sym}
 use Rattle.play_text.specs.Texts.{fates_header}
 use Rattle.gathered_writes.specs.Gathered.{Grew, Stopped}
@@ -52,7 +52,7 @@ module _ {u : View} {dep fat : ℕ} {recs rows ds ts : List ℕ} (h : TextsAre u
   texts_same d t = record { departures = text_same _ _ _ _ _ d h.departures; fates = text_same _ _ _ _ _ t h.fates; apart = h.apart }
 
   -- what was read leaves what was written
-  pub texts_kept : {F : ℕ → Type 0} {v : View} → Keeps Any F u v → TextsAre v dep fat recs rows ds ts
+  pub texts_kept : {F : ℕ → Type 0} {v : View} → Keeps Everything F u v → TextsAre v dep fat recs rows ds ts
   texts_kept k = record {
     departures = text_kept _ _ _ _ _ _ h.departures k;
     fates = text_kept _ _ _ _ _ _ h.fates k;

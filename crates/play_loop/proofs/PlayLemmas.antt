@@ -4,7 +4,7 @@ use Rattle.std.specs.Prelude.{IsSome, IsTrue}
 use Rattle.altq_model.specs.declared.Placed.{Placed}
 use Rattle.altq_model.specs.Arrivals.{Captured, bare_arrivals}
 use Rattle.altq_model.specs.Departures.{departures}
-use Rattle.altq_model.specs.History.{Arrival, Happened, bare, offered, journal}
+use Rattle.altq_model.specs.History.{Arrival, LabelledEvent, unlabelled, offered, journal}
 use Rattle.altq_model.specs.Lawful.{AreRising, RiseFrom, greatest}
 use Rattle.altq_model.specs.Play.{AreDue}
 use Rattle.play_text.specs.Texts.{fates, fates_header}
@@ -69,7 +69,7 @@ rise_front t [] ys r = tt
 rise_front t (x ∷ xs) ys r = (r.0, rise_front x.at xs ys r.1)
 
 -- the first arrivals of a capture: they rise, and their texts are those of all
-module _ (x : Setup) (records : List Record) (arrived more : List Captured) (g : List Happened) (m : IsSound x) (e : arrivals_in x records ≡ arrived ++ more)
+module _ (x : Setup) (records : List Record) (arrived more : List Captured) (g : List LabelledEvent) (m : IsSound x) (e : arrivals_in x records ≡ arrived ++ more)
     (d : AreDue x.policy x.rate x.seed (bare_arrivals arrived) g) where
   first_laws : HasLaws x.policy x.rate x.seed (bare_arrivals arrived) g
   first_laws =
@@ -94,7 +94,7 @@ module _ (x : Setup) (records : List Record) (arrived more : List Captured) (g :
   front_all h = record { departures = front_same _ _ _ _ same_departures h.departures; fates = front_same _ _ _ _ same_fates h.fates }
 
 -- fronts of the texts of events that are the first of all
-pub fronts_first : (x : Setup) (told : List ℕ → Type 0) (u v : View) (o : Opened) (arrived : List Captured) (g : List Happened) → IsSound x → OfArrivals u o told → AreFirst x told arrived g
+pub fronts_first : (x : Setup) (told : List ℕ → Type 0) (u v : View) (o : Opened) (arrived : List Captured) (g : List LabelledEvent) → IsSound x → OfArrivals u o told → AreFirst x told arrived g
     → IsBegun x.policy x.rate x.seed (bare_arrivals arrived) g → FrontsAre v o.departures o.fates (departures_of x arrived g) (fates_of x arrived g) → Fronts x u v o
 fronts_first x told u v o arrived g m tells first b h = λ t rest l records last reads is_last.
     let f = first (o.first.now ++ rest) (tells t rest l) records last reads is_last in
@@ -102,8 +102,8 @@ fronts_first x told u v o arrived g m tells first b h = λ t rest l records last
     record { history = g; begun = record { events = subst P (sym f.1) f.2; in_time = b.in_time }; texts = front_all x records arrived f.0 g m f.1 b.events h }
 
 -- the events up to the offer of the last complete record
-pub offered_all : {x : Setup} {stood : List Happened → Type 0} {v : View} {o : Opened} {records : List Record} (arrived : List Captured) (g : List Happened) → arrived ≡ arrivals_in x records
-    → IsBegun x.policy x.rate x.seed (bare_arrivals arrived) g → offered (bare g) ≡ length arrived → EndsWithOffer g → HoldTexts v o x arrived g → IsStanding stood g
+pub offered_all : {x : Setup} {stood : List LabelledEvent → Type 0} {v : View} {o : Opened} {records : List Record} (arrived : List Captured) (g : List LabelledEvent) → arrived ≡ arrivals_in x records
+    → IsBegun x.policy x.rate x.seed (bare_arrivals arrived) g → offered (unlabelled g) ≡ length arrived → EndsWithOffer g → HoldTexts v o x arrived g → IsStanding stood g
     → HasOffered x stood v o records
 offered_all {x = x} {v = v} {o = o} {records = records} arrived g e b n l h s =
     let B : List Captured → Type 0 = λ a. IsBegun x.policy x.rate x.seed (bare_arrivals a) g in
@@ -118,10 +118,10 @@ offered_all {x = x} {v = v} {o = o} {records = records} arrived g e b n l h s =
     }
 
 -- when a fault of the capture comes
-abbrev pub Offered : Setup → (List Happened → Type 0) → View → View → Opened → CaptureFault → Type 0
+abbrev pub Offered : Setup → (List LabelledEvent → Type 0) → View → View → Opened → CaptureFault → Type 0
 Offered x stood old new o f = OfArrivals old o (λ bytes. (records : List Record) × IsCut f new o.arrivals bytes records × HasOffered x stood new o records)
 
-pub explains_capture : (x : Setup) (stood : List Happened → Type 0) (u w : View) (o : Opened) (f : CaptureFault) → Offered x stood u w o f
+pub explains_capture : (x : Setup) (stood : List LabelledEvent → Type 0) (u w : View) (o : Opened) (f : CaptureFault) → Offered x stood u w o f
     → (f ≡ capture.Read → ReadFault u w o.arrivals) → Explains x stood u w o (capture_fault f)
 explains_capture x stood u w o (capture.Damage d) h r = h
 explains_capture x stood u w o capture.Limit h r = h
@@ -227,7 +227,7 @@ took_ahead place v w r file bytes rest arrived moment h left = λ before s after
     record { rest = y.rest.0; left = left ∙ y.rest.1; within = omega (arith, size, ap (λ (rs : List Record). place_after 24 rs) same) }
 
 -- a play that was cut off, over all arrivals
-abbrev pub cut_all : (x : Setup) (records : List Record) (arrived more : List Captured) (g : List Happened) (t : Totals) → IsSound x → (c : IsCutOff x.policy x.rate x.seed (bare_arrivals arrived) g)
+abbrev pub cut_all : (x : Setup) (records : List Record) (arrived more : List Captured) (g : List LabelledEvent) (t : Totals) → IsSound x → (c : IsCutOff x.policy x.rate x.seed (bare_arrivals arrived) g)
     → arrivals_in x records ≡ arrived ++ more → AreDue x.policy x.rate x.seed (bare_arrivals (arrived ++ more)) (c.next ∷ g) → AreTotals x.rate g t
     → IsStopped x.policy x.rate x.seed (arrivals_in x records) g t
 cut_all x records arrived more g t m c e d total =

@@ -4,7 +4,7 @@ use Rattle.std.specs.Prelude.{slice_get, option_map, nat_lt, IfNone, IfSome, IsT
 use Rattle.std.specs.declared.option.Option.{Option}
 use Rattle.altq_model.specs.declared.Placed.{Placed}
 use Rattle.altq_model.specs.Arrivals.{Captured, arrivals_from, arrivals_of, bare_arrival, bare_arrivals}
-use Rattle.altq_model.specs.History.{Arrival, Event, DrawnWords, Happened, bare, offered, journal}
+use Rattle.altq_model.specs.History.{Arrival, Event, DrawnWords, LabelledEvent, unlabelled, offered, journal}
 use Rattle.altq_model.specs.Laws.{IsLate}
 use Rattle.altq_model.specs.Lawful.{AreRising, RiseFrom, greatest, latest}
 use Rattle.altq_model.specs.Play.{AreDue}
@@ -15,9 +15,9 @@ use Rattle.play_text.specs.Texts.{fates_header}
 use Rattle.pcap_files.specs.declared.fault.CaptureFault.{CaptureFault}
 use Rattle.pcap_files.specs.declared.fault.CaptureFault.TheVariants as fault
 use Rattle.pcap_files.specs.declared.reader.Reader.{Reader}
-use Rattle.pcap_files.specs.Reading.{Answers, Counts as NextCounts, IsWhole, StandsFor, Shows, Told, answered}
+use Rattle.pcap_files.specs.Reading.{Answers, Counts as NextCounts, IsWhole, Represents, Shows, RecordTold, answered}
 use Rattle.pcap_files.proofs.ReadingLaws.{answered_front, one_reading, stands_kept}
-use Rattle.play_base.specs.View.{View, Keeps, Any, ReadFault}
+use Rattle.play_base.specs.View.{View, Keeps, Everything, ReadFault}
 use Rattle.play_base.proofs.ViewLaws.{rose_later, still_there}
 use Rattle.play_base.proofs.HoldsLaws.{apart_kept}
 use Rattle.play_laws.specs.Events.{IsOffer, IsSending}
@@ -41,9 +41,9 @@ use Rattle.play_loop.specs.Kept.{IsOther, OnlyWrote, OnlyPlayed}
 use Rattle.play_loop.specs.Outputs.{HasTexts, SameFiles}
 use Rattle.play_loop.specs.Played.{start_of}
 use Rattle.class_counts.specs.Fit.{AreFit, IsFit}
-use Rattle.play_loop.specs.Reading.{CanRead, HasRead, IsRead, IsWithin, arrival_of}
+use Rattle.play_loop.specs.Reading.{CanRead, HasRead, IsRead, ArrivalFits, arrival_of}
 use Rattle.play_loop.specs.Setup.{IsSound, Setup}
-use Rattle.play_loop.specs.Underway.{HasGiven, IsHeld, IsUnderway, Moment, StayDue}
+use Rattle.play_loop.specs.Underway.{HasGiven, IsNextArrival, IsUnderway, Moment, StayDue}
 use Rattle.class_counts.proofs.CountingLemmas.{counted_read}
 use Rattle.play_loop.proofs.OutputLemmas.{texts_kept, texts_same, there_same}
 use Rattle.play_loop.proofs.PlayLemmas.{greatest_append}
@@ -72,11 +72,11 @@ there_push [] a = refl
 there_push (x ∷ xs) a = there_push xs a
 
 -- a play in which every arrival that was read was offered, the last of them last
-pub record IsReading (x : Setup) (m : Moment) (w : DrawnWords) (told : List ℕ → Type 0) (r : Reader) (top : ℕ) (arrived : List Captured) (g : List Happened) : Type 0 where
+pub record IsReading (x : Setup) (m : Moment) (w : DrawnWords) (told : List ℕ → Type 0) (r : Reader) (top : ℕ) (arrived : List Captured) (g : List LabelledEvent) : Type 0 where
   pub under : IsUnderway x m arrived w g
-  pub offers : offered (bare g) ≡ length arrived
+  pub offers : offered (unlabelled g) ≡ length arrived
   pub last : EndsWithOffer g
-  pub newest : latest (bare g) ≡ top
+  pub newest : latest (unlabelled g) ≡ top
   pub last_is : last_at 0 (bare_arrivals arrived) ≡ top
   pub counted : length arrived ≤ answered r
   pub read : (bytes : List ℕ) → told bytes → HasRead x.place m.files r bytes arrived top
@@ -85,7 +85,7 @@ pub record IsReading (x : Setup) (m : Moment) (w : DrawnWords) (told : List ℕ 
 pub record HasReadOne (place : List ℕ → Placed) (v : View) (r : Reader) (bytes : List ℕ) (arrived : List Captured) (top now : ℕ) : Type 0 where
   pub before : List Record
   pub last : Record
-  pub stands : StandsFor v r bytes (before ++ last ∷ [])
+  pub stands : Represents v r bytes (before ++ last ∷ [])
   pub arrivals : arrived ≡ arrivals_of place (before ++ last ∷ [])
   pub top_is : greatest 0 before ≡ top
   pub now_is : greatest 0 (before ++ last ∷ []) ≡ now
@@ -95,16 +95,16 @@ pub has_read : {place : List ℕ → Placed} {v : View} {r : Reader} {bytes : Li
 has_read h = record { records = h.before ++ h.last ∷ []; stands = h.stands; arrivals = h.arrivals; latest_is = h.now_is }
 
 -- one more packet was read, and is the next to be offered
-pub record IsComing (x : Setup) (m : Moment) (w : DrawnWords) (told : List ℕ → Type 0) (r : Reader) (a : Arriving) (arrived : List Captured) (g : List Happened) : Type 0 where
+pub record IsComing (x : Setup) (m : Moment) (w : DrawnWords) (told : List ℕ → Type 0) (r : Reader) (a : Arriving) (arrived : List Captured) (g : List LabelledEvent) : Type 0 where
   pub under : IsUnderway x m arrived w g
-  pub held : IsHeld x.place arrived g a
-  pub offers : offered (bare g) + 1 ≡ length arrived
+  pub held : IsNextArrival x.place arrived g a
+  pub offers : offered (unlabelled g) + 1 ≡ length arrived
   pub last_is : last_at 0 (bare_arrivals arrived) ≡ a.packet.at
   pub counted : length arrived ≤ answered r
-  pub read : (bytes : List ℕ) → told bytes → HasReadOne x.place m.files r bytes arrived (latest (bare g)) a.packet.at
+  pub read : (bytes : List ℕ) → told bytes → HasReadOne x.place m.files r bytes arrived (latest (unlabelled g)) a.packet.at
 
 -- a read leaves what was written
-pub under_kept : {F : ℕ → Type 0} {x : Setup} {m : Moment} {v : View} {arrived : List Captured} {w : DrawnWords} {g : List Happened} → IsUnderway x m arrived w g → Keeps Any F m.files v
+pub under_kept : {F : ℕ → Type 0} {x : Setup} {m : Moment} {v : View} {arrived : List Captured} {w : DrawnWords} {g : List LabelledEvent} → IsUnderway x m arrived w g → Keeps Everything F m.files v
     → IsUnderway x (record m { files = v }) arrived w g
 under_kept u k = record {
   setup = moved_on u.setup refl refl refl;
@@ -113,8 +113,8 @@ under_kept u k = record {
 }
 
 -- one more packet was read and counted
-under_read : {x : Setup} {m : Moment} {o : Outputs} {arrived : List Captured} {w : DrawnWords} {g : List Happened} (a : Arriving) → IsUnderway x m arrived w g → EndsWithOffer g
-    → last_at 0 (bare_arrivals arrived) ≤ a.packet.at → length arrived < most_records → IsWithin a → o ≡ record m.outputs { counts = o.counts }
+under_read : {x : Setup} {m : Moment} {o : Outputs} {arrived : List Captured} {w : DrawnWords} {g : List LabelledEvent} (a : Arriving) → IsUnderway x m arrived w g → EndsWithOffer g
+    → last_at 0 (bare_arrivals arrived) ≤ a.packet.at → length arrived < most_records → ArrivalFits a → o ≡ record m.outputs { counts = o.counts }
     → o.counts.items ≡ count_at x.names (x.place a.packet.bytes.now).class (Arrived a.packet.len a.raised) m.outputs.counts.items
     → IsUnderway x (record m { outputs = o }) (arrived ++ arrival_of x.place a ∷ []) w g
 under_read {x} {m} {o} {arrived} {w} {g} a u last l few i same more_is =
@@ -145,7 +145,7 @@ of_some {A} P o a e h = let Q : Option A → Type 0 = λ k. IfSome k P in subst 
 pub of_none : {A : Type 0} (P : Type 0) (o : Option A) → o ≡ None → IfNone o P → P
 of_none {A} P o e h = let Q : Option A → Type 0 = λ k. IfNone k P in subst Q e h
 
-arrival_made : (place : List ℕ → Placed) (answer : Told) (top now count : ℕ) (a : Arriving) (s : Record) → IsRead answer top a → now ≡ top → Shows answer count s
+arrival_made : (place : List ℕ → Placed) (answer : RecordTold) (top now count : ℕ) (a : Arriving) (s : Record) → IsRead answer top a → now ≡ top → Shows answer count s
     → arrival_of place a ≡ record {
       at = max now s.stamp;
       len = max s.original (length s.captured);
@@ -156,9 +156,9 @@ arrival_made : (place : List ℕ → Placed) (answer : Told) (top now count : �
     }
 arrival_made place answer top now count a s i e y = cc (i.at, i.len, i.bytes, i.raised, e, y.stamp, y.len, y.bytes)
 
-read_record : {place : List ℕ → Placed} {v v' : View} {r r' : Reader} {bytes : List ℕ} {arrived : List Captured} {top : ℕ} {answer : Told} (a : Arriving) → IsRead answer top a
+read_record : {place : List ℕ → Placed} {v v' : View} {r r' : Reader} {bytes : List ℕ} {arrived : List Captured} {top : ℕ} {answer : RecordTold} (a : Arriving) → IsRead answer top a
     → (h : HasRead place v r bytes arrived top)
-    → (s : Record) × Shows answer (length h.records) s × StandsFor v' r' bytes (h.records ++ s ∷ [])
+    → (s : Record) × Shows answer (length h.records) s × Represents v' r' bytes (h.records ++ s ∷ [])
     → HasReadOne place v' r' bytes (arrived ++ arrival_of place a ∷ []) top a.packet.at
 read_record {place} {top = top} {answer} a i h y =
     let s : Record = y.0 in
@@ -174,22 +174,22 @@ read_record {place} {top = top} {answer} a i h y =
     }
 
 -- what a reader's answer and its arrival show: the packet is the next by number, placed and counted
-pub record HasArrived (x : Setup) (m : Moment) (answer : Told) (top : ℕ) (a : Arriving) (ks : List Counts) : Type 0 where
+pub record HasArrived (x : Setup) (m : Moment) (answer : RecordTold) (top : ℕ) (a : Arriving) (ks : List Counts) : Type 0 where
   pub read : IsRead answer top a
   pub number : a.packet.number ≡ m.progress.totals.arrived + 1
   pub placed : a.placed ≡ x.place a.packet.bytes.now
-  pub within : IsWithin a
+  pub within : ArrivalFits a
   pub few : answer.number ≤ 4000000
   pub counted : ks ≡ count_at x.names (x.place a.packet.bytes.now).class (Arrived a.packet.len a.raised) m.outputs.counts.items
 
-pub coming : {F : ℕ → Type 0} {x : Setup} {m : Moment} {v : View} {o : Outputs} {w : DrawnWords} {told : List ℕ → Type 0} {r r' : Reader} {top : ℕ} {arrived : List Captured} {g : List Happened}
-    (answer : Told) (a : Arriving) → IsReading x m w told r top arrived g → Keeps Any F m.files v → Answers m.files v r r' answer → NextCounts r r' answer
+pub coming : {F : ℕ → Type 0} {x : Setup} {m : Moment} {v : View} {o : Outputs} {w : DrawnWords} {told : List ℕ → Type 0} {r r' : Reader} {top : ℕ} {arrived : List Captured} {g : List LabelledEvent}
+    (answer : RecordTold) (a : Arriving) → IsReading x m w told r top arrived g → Keeps Everything F m.files v → Answers m.files v r r' answer → NextCounts r r' answer
     → HasArrived x m answer top a o.counts.items → o ≡ record m.outputs { counts = o.counts }
     → IsComing x (record m { files = v; outputs = o }) w told r' a (arrived ++ arrival_of x.place a ∷ []) g
 coming {x = x} {o = o} {w = w} {top = top} {arrived = arrived} {g = g} answer a z k answers counts c same =
     let b : Captured = arrival_of x.place a in
     let size = length-append arrived (b ∷ []) in
-    let number : a.packet.number ≡ offered (bare g) + 1 = omega (arith, c.number, z.under.going.totals.arrived) in
+    let number : a.packet.number ≡ offered (unlabelled g) + 1 = omega (arith, c.number, z.under.going.totals.arrived) in
     record {
       under = under_read a (under_kept z.under k) z.last (omega (arith, z.last_is, c.read.at)) (omega (arith, z.counted, counts.number, c.few)) c.within same c.counted;
       held = record {
@@ -228,9 +228,9 @@ none_there [] k e = refl
 none_there (x ∷ xs) zero e = absurd (omega (arith, e))
 none_there (x ∷ xs) (suc k) e = none_there xs k (omega (arith, e))
 
-pub none_arrives : (arrived : List Captured) (g : List Happened) → offered (bare g) ≡ length arrived → None ≡ arrives arrived g
+pub none_arrives : (arrived : List Captured) (g : List LabelledEvent) → offered (unlabelled g) ≡ length arrived → None ≡ arrives arrived g
 none_arrives arrived g e =
-    sym (ap (λ (o : Option Arrival). option_map (λ (a : Arrival). a.at) o) (none_there (bare_arrivals arrived) (offered (bare g)) (e ∙ sym (bare_arrivals_length arrived))))
+    sym (ap (λ (o : Option Arrival). option_map (λ (a : Arrival). a.at) o) (none_there (bare_arrivals arrived) (offered (unlabelled g)) (e ∙ sym (bare_arrivals_length arrived))))
 
 -- they are all arrivals of a capture
 abbrev pub all_read : (place : List ℕ → Placed) (told : List ℕ → Type 0) (v : View) (r : Reader) (arrived : List Captured) (top : ℕ) → IsWhole v r
@@ -240,7 +240,7 @@ all_read place told v r arrived top whole read bytes t =
     record { records = h.records; arrivals = h.arrivals; reads = whole bytes h.records h.stands; size = omega (arith, h.stands.place, r.progress.placed) }
 
 -- the first arrivals of all complete records
-pub first_of_all : (x : Setup) (told : List ℕ → Type 0) (arrived : List Captured) (g : List Happened) → ((bytes : List ℕ) → told bytes → IsAll x.place bytes arrived)
+pub first_of_all : (x : Setup) (told : List ℕ → Type 0) (arrived : List Captured) (g : List LabelledEvent) → ((bytes : List ℕ) → told bytes → IsAll x.place bytes arrived)
     → AreDue x.policy x.rate x.seed (bare_arrivals arrived) g → AreFirst x told arrived g
 first_of_all x told arrived g all d = λ bytes t every last y l.
     let h = all bytes t in
@@ -248,7 +248,7 @@ first_of_all x told arrived g all d = λ bytes t every last y l.
     let P : List Captured → Type 0 = λ k. AreDue x.policy x.rate x.seed (bare_arrivals k) g in
     ([], ap (λ (rs : List Record). arrivals_of x.place rs) one.0 ∙ sym h.arrivals ∙ sym (append-nil arrived), subst P (sym (append-nil arrived)) d)
 
-pub first_of_read : (x : Setup) (told : List ℕ → Type 0) (v : View) (r : Reader) (arrived : List Captured) (top : ℕ) (g : List Happened)
+pub first_of_read : (x : Setup) (told : List ℕ → Type 0) (v : View) (r : Reader) (arrived : List Captured) (top : ℕ) (g : List LabelledEvent)
     → ((bytes : List ℕ) → told bytes → HasRead x.place v r bytes arrived top) → StayDue x arrived g → AreFirst x told arrived g
 first_of_read x told v r arrived top g read s = λ bytes t every last y l.
     let h = read bytes t in
@@ -261,20 +261,20 @@ first_of_read x told v r arrived top g read s = λ bytes t every last y l.
     )
 
 -- when a sending that would end too late starts
-pub record StartsThen (arrived : List Arrival) (g : List Happened) (start : ℕ) : Type 0 where
-  pub after : latest (bare g) ≤ start
-  pub before : (a : Arrival) → slice_get arrived (offered (bare g)) ≡ Some a → start < a.at
+pub record StartsThen (arrived : List Arrival) (g : List LabelledEvent) (start : ℕ) : Type 0 where
+  pub after : latest (unlabelled g) ≤ start
+  pub before : (a : Arrival) → slice_get arrived (offered (unlabelled g)) ≡ Some a → start < a.at
 
-late_start : (x : Setup) (arrived : List Arrival) (g : List Happened) (e : Happened) → IsSound x → AreRising arrived → AreDue x.policy x.rate x.seed arrived g
+late_start : (x : Setup) (arrived : List Arrival) (g : List LabelledEvent) (e : LabelledEvent) → IsSound x → AreRising arrived → AreDue x.policy x.rate x.seed arrived g
     → IsLate e.what → IsOffer x.policy x.rate x.seed arrived g e ⊎ IsSending x.policy x.rate arrived g e → StartsThen arrived g (start_of e.what)
 late_start x arrived g e s rise d l (inl y) =
-    let P : Event → Type 0 = λ w. IsLate w in absurd (subst P (ap (λ (k : Happened). k.what) y.offer) l)
+    let P : Event → Type 0 = λ w. IsLate w in absurd (subst P (ap (λ (k : LabelledEvent). k.what) y.offer) l)
 late_start x arrived g e s rise d l (inr y) =
     let same : start_of e.what ≡ y.sending.start = ap start_of y.event in
     let after = all_arrived x.policy x.rate x.seed arrived g s.positive s.lawful rise d y.sending.start y.least in
     record { after = omega (arith, same, after); before = λ a t. (let b = y.passed a t in omega (arith, same, b)) }
 
-pub cut_starts : (x : Setup) (arrived : List Arrival) (g : List Happened) → IsSound x → AreRising arrived → (c : IsCutOff x.policy x.rate x.seed arrived g)
+pub cut_starts : (x : Setup) (arrived : List Arrival) (g : List LabelledEvent) → IsSound x → AreRising arrived → (c : IsCutOff x.policy x.rate x.seed arrived g)
     → StartsThen arrived g (start_of c.next.what)
 cut_starts x arrived g s rise c =
     late_start x arrived g c.next s rise c.begun.events c.late

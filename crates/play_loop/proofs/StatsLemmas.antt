@@ -2,7 +2,7 @@
 use Rattle.std.proofs.Common.{◌≡◌, ◌++◌, ◌∙◌, inl, inr, ℕ, List, [], take, drop, Ok, Err, ap, sym, subst}
 use Rattle.std.specs.Prelude.{IfOk, IsTrue, Result}
 use Rattle.altq_model.specs.Arrivals.{Captured}
-use Rattle.altq_model.specs.History.{Happened}
+use Rattle.altq_model.specs.History.{LabelledEvent}
 use Rattle.capture_model.specs.Capture.{Record, End}
 use Rattle.pcap_files.proofs.ReadingLaws.{one_reading}
 use Rattle.play_base.specs.Holds.{HoldsAt}
@@ -28,11 +28,11 @@ use Rattle.play_loop.proofs.PlayLemmas.{whole_front}
 pub keeps_played : {u v : View} (o : Opened) → KeepsBeside o.arrivals o.departures o.fates u v → KeepsPlayed o u v
 keeps_played o k = keeps_fewer _ _ _ _ _ _ (λ n h. (h.0, h.1)) (λ f h. (h.0, (h.1.0, h.1.1))) k
 
-pub plays_told : (x : Setup) (stood : List Happened → Type 0) (kept : List KeptFate → Type 0) (u v : View) (o : Opened) (t : Totals) → Tells x stood kept u v o t → Plays x stood u v o t
+pub plays_told : (x : Setup) (stood : List LabelledEvent → Type 0) (kept : List KeptFate → Type 0) (u v : View) (o : Opened) (t : Totals) → Tells x stood kept u v o t → Plays x stood u v o t
 plays_told x stood kept u v o t p = λ told rest l. (let y = p told rest l in (y.0, y.1, y.2.played))
 
 -- what holds of all that was told
-pub tells_as : (x : Setup) (stood : List Happened → Type 0) (P Q : List KeptFate → Type 0) (u v : View) (o : Opened) (r : Result Totals PlayFault) → ((ks : List KeptFate) → P ks → Q ks)
+pub tells_as : (x : Setup) (stood : List LabelledEvent → Type 0) (P Q : List KeptFate → Type 0) (u v : View) (o : Opened) (r : Result Totals PlayFault) → ((ks : List KeptFate) → P ks → Q ks)
     → IfOk r (Tells x stood P u v o) → IfOk r (Tells x stood Q u v o)
 tells_as x stood P Q u v o (Ok t) h p = λ told rest l. (let y = p told rest l in (y.0, y.1, record { played = y.2.played; told = h _ y.2.told }))
 tells_as x stood P Q u v o (Err e) h p = p
@@ -52,7 +52,7 @@ by_cause P stats u v (play.Capture damage) h s n = absurd h
 by_cause P stats u v play.Read h s n = absurd h
 by_cause P stats u v (play.Limit limit) h s n = absurd h
 
-pub explains_stats : (x : Setup) (stood : List Happened → Type 0) {u v : View} (w : View) (o : Opened) (f : PlayFault) → KeepsBeside o.arrivals o.departures o.fates u v
+pub explains_stats : (x : Setup) (stood : List LabelledEvent → Type 0) {u v : View} (w : View) (o : Opened) (f : PlayFault) → KeepsBeside o.arrivals o.departures o.fates u v
     → IsStatsCause o.stats v w f → Explains x stood u w o f
 explains_stats x stood {u} {v} w o f k h =
     by_cause (λ q. Explains x stood u w o q) o.stats v w f h (λ y p at. rose_later _ _ _ (k.later.write p) (y p (k.part o.stats p at))) tt
@@ -92,14 +92,14 @@ module _ {u v : View} {o : Opened} (r : AreReady u o) (k : KeepsBeside o.arrival
       }
 
   -- departures and fates stay as they were
-  texts_beside : {x : Setup} {w : View} {arrived : List Captured} {g : List Happened} {ys : List ℕ} → Wrote v w o.stats ys → HoldTexts v o x arrived g → HoldTexts w o x arrived g
+  texts_beside : {x : Setup} {w : View} {arrived : List Captured} {g : List LabelledEvent} {ys : List ℕ} → Wrote v w o.stats ys → HoldTexts v o x arrived g → HoldTexts w o x arrived g
   texts_beside s h = record {
     departures = holds_beside v _ o.departures o.stats _ _ h.departures
         (apart_kept _ _ u v o.departures o.stats r.empty.departures.there r.stats.there r.departures_from_stats k) s;
     fates = holds_beside v _ o.fates o.stats _ _ h.fates (apart_kept _ _ u v o.fates o.stats r.empty.fates.there r.stats.there r.fates_from_stats k) s;
   }
 
-  module _ (x : Setup) (stood : List Happened → Type 0) (kept : List KeptFate → Type 0) (w : View) (t : Tally) (p : Writes x stood kept u v o t) where
+  module _ (x : Setup) (stood : List LabelledEvent → Type 0) (kept : List KeptFate → Type 0) (w : View) (t : Tally) (p : Writes x stood kept u v o t) where
     pub tells_whole : Wrote v w o.stats (stats_of x.names t.counts.items) → Tells x stood kept u w o t.totals
     tells_whole s = λ told rest l.
         let y = p told rest l in

@@ -10,7 +10,7 @@ use Rattle.altq_model.specs.declared.Verdict.{Verdict}
 use Rattle.altq_model.specs.declared.Verdict.TheVariants.{Keep, Mark, Drop}
 use Rattle.altq_model.specs.Arrivals.{Captured, arrival, bare_arrival, bare_arrivals, no_arrival}
 use Rattle.altq_model.specs.Departures.{Dressing, departure, departed, departures}
-use Rattle.altq_model.specs.History.{Arrival, Decision, Event, Offered, Sent, Happened, bare, offered, drawn, was_marked, decided, dropped_by, journal}
+use Rattle.altq_model.specs.History.{Arrival, Decision, Event, Offered, Sent, LabelledEvent, unlabelled, offered, drawn, was_marked, decided, dropped_by, journal}
 use Rattle.altq_model.specs.Lawful.{AreHeld, IsOneOf}
 use Rattle.altq_model.specs.Play.{Policy, offer_of}
 use Rattle.capture_model.specs.Capture.{Record}
@@ -51,7 +51,7 @@ pub record Leaves (place : List ℕ → Placed) (arrived : List Captured) (d : D
   pub len : d.packet.len ≡ (arrival arrived d.packet.number).len
   pub bytes : d.packet.bytes ≡ (arrival arrived d.packet.number).bytes
 
-pub leaves : (place : List ℕ → Placed) (arrived : List Captured) (g : List Happened) (d : Departure) → AreFit place arrived
+pub leaves : (place : List ℕ → Placed) (arrived : List Captured) (g : List LabelledEvent) (d : Departure) → AreFit place arrived
     → d.packet ≡ numbered d.packet.number (arrival arrived d.packet.number) → AreOfArrivals (bare_arrivals arrived) (departs d ∷ g) → Leaves place arrived d
 leaves place arrived g d f e o =
     let s = o.0 in
@@ -66,7 +66,7 @@ leaves place arrived g d f e o =
 abbrev fate_at : (number at : ℕ) → Fate → KeptFate
 fate_at number at f = record { number = number; arrival = at; fate = f }
 
-module _ {place : List ℕ → Placed} {arrived : List Captured} {d : Departure} (g : List Happened) (x : Leaves place arrived d) where
+module _ {place : List ℕ → Placed} {arrived : List Captured} {d : Departure} (g : List LabelledEvent) (x : Leaves place arrived d) where
   record_is : (dress : Dressing) → d.marked ≡ was_marked d.packet.number g
       → departure dress (arrival arrived d.packet.number) (was_marked d.packet.number g) d.end ≡ record_of dress d
   record_is dress m = rw (m, x.class, x.bytes, x.len) refl
@@ -94,7 +94,7 @@ module _ {place : List ℕ → Placed} {arrived : List Captured} {d : Departure}
       ∙ sym (map-append (kept_fate arrived) (journal g) ((d.packet.number, f) ∷ []))
 
 -- an offer adds no record, and where it drops a row and what is told
-pub departures_offered : (dress : Dressing) (p : Policy) (seed : ℕ) (arrived : List Captured) (g : List Happened) (a : Arrival)
+pub departures_offered : (dress : Dressing) (p : Policy) (seed : ℕ) (arrived : List Captured) (g : List LabelledEvent) (a : Arrival)
     → departures dress arrived g ≡ departures dress arrived (offer_of p seed g a ∷ g)
 departures_offered dress p seed arrived g a = ap (λ (rs : List Record). written rs) (sym (append-nil (departed dress arrived g)))
 
@@ -117,22 +117,22 @@ drop_told arrived n a packet (Drop r) e f =
     let at : packet.at ≡ a.at = ap (λ (k : Packet). k.at) f in
     rw (number, at, ← e) refl
 
-abbrev verdict_of : Policy → (seed : ℕ) → List Happened → Captured → Verdict
-verdict_of p seed g a = (p.answer (bare g) (record { seed = seed; drawn = drawn (bare g) }) (bare_arrival a)).verdict
+abbrev verdict_of : Policy → (seed : ℕ) → List LabelledEvent → Captured → Verdict
+verdict_of p seed g a = (p.answer (unlabelled g) (record { seed = seed; drawn = drawn (unlabelled g) }) (bare_arrival a)).verdict
 
-module _ (p : Policy) (seed : ℕ) (arrived : List Captured) (g : List Happened) (a : Captured) (packet : LentPacket)
-    (e : arrival arrived (offered (bare g) + 1) ≡ a) (f : packet_of_lent packet ≡ numbered (offered (bare g) + 1) a) where
+module _ (p : Policy) (seed : ℕ) (arrived : List Captured) (g : List LabelledEvent) (a : Captured) (packet : LentPacket)
+    (e : arrival arrived (offered (unlabelled g) + 1) ≡ a) (f : packet_of_lent packet ≡ numbered (offered (unlabelled g) + 1) a) where
   pub fates_offered : (names : Naming) (class : ℕ) → class ≡ a.class
       → fates names arrived (journal g) ++ option_map_or (dropped_row names class) (drop_of (verdict_of p seed g a) packet) [] ≡ fates names arrived (journal (offer_of p seed g (bare_arrival a) ∷ g))
   fates_offered names class h =
-      ap (λ (t : List ℕ). fates names arrived (journal g) ++ t) (rows_offered names arrived (offered (bare g) + 1) class a packet (verdict_of p seed g a) e f h)
-      ∙ sym (fates-append names arrived (journal g) (dropped_by (verdict_of p seed g a) (offered (bare g) + 1)))
+      ap (λ (t : List ℕ). fates names arrived (journal g) ++ t) (rows_offered names arrived (offered (unlabelled g) + 1) class a packet (verdict_of p seed g a) e f h)
+      ∙ sym (fates-append names arrived (journal g) (dropped_by (verdict_of p seed g a) (offered (unlabelled g) + 1)))
 
   pub told_offered : kept_fates arrived (journal g) ++ option_map_or (λ (d : Dropped). dropped_fate d ∷ []) (drop_of (verdict_of p seed g a) packet) []
       ≡ kept_fates arrived (journal (offer_of p seed g (bare_arrival a) ∷ g))
   told_offered =
-      ap (λ (t : List KeptFate). kept_fates arrived (journal g) ++ t) (drop_told arrived (offered (bare g) + 1) a packet (verdict_of p seed g a) e f)
-      ∙ sym (map-append (kept_fate arrived) (journal g) (dropped_by (verdict_of p seed g a) (offered (bare g) + 1)))
+      ap (λ (t : List KeptFate). kept_fates arrived (journal g) ++ t) (drop_told arrived (offered (unlabelled g) + 1) a packet (verdict_of p seed g a) e f)
+      ∙ sym (map-append (kept_fate arrived) (journal g) (dropped_by (verdict_of p seed g a) (offered (unlabelled g) + 1)))
 
 -- what was told of the first arrivals stays so whatever arrives later
 one_stays : (xs ys : List Captured) (n : ℕ) (a : Arrival) (f : Fate) → slice_get (bare_arrivals xs) (n - 1) ≡ Some a → kept_fate (xs ++ ys) (n, f) ∷ [] ≡ kept_fate xs (n, f) ∷ []
@@ -148,7 +148,7 @@ event_stays : (xs ys : List Captured) (n : ℕ) (e : Event) → IsOfArrival (bar
 event_stays xs ys n (Offered a w v) x = drop_stays xs ys n a v.verdict x.1
 event_stays xs ys n (Sent s) x = one_stays xs ys n x.packet (fate.Sent s.start s.end s.rule) x.arrival
 
-pub told_stays : (xs ys : List Captured) (g : List Happened) → AreOfArrivals (bare_arrivals xs) g → kept_fates (xs ++ ys) (journal g) ≡ kept_fates xs (journal g)
+pub told_stays : (xs ys : List Captured) (g : List LabelledEvent) → AreOfArrivals (bare_arrivals xs) g → kept_fates (xs ++ ys) (journal g) ≡ kept_fates xs (journal g)
 told_stays xs ys [] f = refl
 told_stays xs ys (e ∷ g) f =
     let d : List Decision = decided e.label e.what in

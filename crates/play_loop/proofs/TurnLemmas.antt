@@ -4,7 +4,7 @@ use Rattle.std.specs.Prelude.{slice_get, option_map, IsSome}
 use Rattle.std.specs.declared.option.Option.{Option}
 use Rattle.altq_model.specs.Arrivals.{Captured, arrival, bare_arrival, bare_arrivals}
 use Rattle.altq_model.specs.declared.Fate.TheVariants as fate
-use Rattle.altq_model.specs.History.{Arrival, Event, Offered, Sent, DrawnWords, Happened, bare, offered, journal, was_marked}
+use Rattle.altq_model.specs.History.{Arrival, Event, Offered, Sent, DrawnWords, LabelledEvent, unlabelled, offered, journal, was_marked}
 use Rattle.altq_model.specs.Play.{Policy, AreDue, due}
 use Rattle.play_laws.specs.Events.{HasLaws}
 use Rattle.play_laws.proofs.AllLaws.{due_laws}
@@ -46,11 +46,11 @@ module _ {x : Setup} {m : Moment} {seed : ℕ} (i : IsPlayedAt x m seed) where
   moved_on p r s = record { sound = i.sound; policy = p ∙ i.policy; rate = r ∙ i.rate; seed_is = s ∙ i.seed_is }
 
 -- a play of this setup goes on
-pub record IsOn (x : Setup) (m : Moment) (arrived : List Captured) (w : DrawnWords) (g : List Happened) : Type 0 where
+pub record IsOn (x : Setup) (m : Moment) (arrived : List Captured) (w : DrawnWords) (g : List LabelledEvent) : Type 0 where
   pub setup : IsPlayedAt x m w.seed
   pub going : Goes m arrived w g
 
-module _ {x : Setup} {m : Moment} {arrived : List Captured} {w : DrawnWords} {g : List Happened} where
+module _ {x : Setup} {m : Moment} {arrived : List Captured} {w : DrawnWords} {g : List LabelledEvent} where
   pub on : IsUnderway x m arrived w g → IsOn x m arrived w g
   on u = record { setup = u.setup; going = u.going }
 
@@ -78,7 +78,7 @@ module _ {x : Setup} {m : Moment} {arrived : List Captured} {w : DrawnWords} {g 
   }
 
 -- a sending that was made, before it is written: what leaves is an arrival
-pub record IsSent (x : Setup) (n : Moment) (arrived : List Captured) (w : DrawnWords) (g : List Happened) (d : Departure) : Type 0 where
+pub record IsSent (x : Setup) (n : Moment) (arrived : List Captured) (w : DrawnWords) (g : List LabelledEvent) (d : Departure) : Type 0 where
   pub on : IsOn x n arrived w (departs d ∷ g)
   pub leaves : Leaves x.place arrived d
   pub mark_is : d.marked ≡ was_marked d.packet.number g
@@ -88,7 +88,7 @@ pub record CountsUp (t u : Totals) : Type 0 where
   pub sent : u.sent ≡ t.sent + 1
   pub within : u.sent ≤ 4000000
 
-module _ {x : Setup} {m n : Moment} {arrived : List Captured} {w : DrawnWords} {g : List Happened} {d : Departure} where
+module _ {x : Setup} {m n : Moment} {arrived : List Captured} {w : DrawnWords} {g : List LabelledEvent} {d : Departure} where
   pub is_sent : IsUnderway x m arrived w g → n.shown.policy ≡ m.shown.policy → n.progress.clock.rate ≡ m.progress.clock.rate
       → Departs m.shown.policy m.progress.clock.rate w.seed arrived g d → Goes n arrived w (departs d ∷ g) → IsSent x n arrived w g d
   is_sent u p r e y =
@@ -102,10 +102,10 @@ module _ {x : Setup} {m n : Moment} {arrived : List Captured} {w : DrawnWords} {
   }
 
 -- its class has a name, and its bytes fit
-pub sent_class : {x : Setup} {n : Moment} {arrived : List Captured} {w : DrawnWords} {g : List Happened} {d : Departure} → IsSent x n arrived w g d → HasClass x.names d.class
+pub sent_class : {x : Setup} {n : Moment} {arrived : List Captured} {w : DrawnWords} {g : List LabelledEvent} {d : Departure} → IsSent x n arrived w g d → HasClass x.names d.class
 sent_class {arrived = arrived} {d = d} s = rw (s.leaves.class ∙ s.leaves.fit.class) (s.on.setup.sound.named (arrival arrived d.packet.number).bytes)
 
-pub sent_fits : {x : Setup} {n : Moment} {arrived : List Captured} {w : DrawnWords} {g : List Happened} {d : Departure} → IsSent x n arrived w g d
+pub sent_fits : {x : Setup} {n : Moment} {arrived : List Captured} {w : DrawnWords} {g : List LabelledEvent} {d : Departure} → IsSent x n arrived w g d
     → length d.packet.bytes ≤ d.packet.len
 sent_fits s = omega (arith, s.leaves.fit.fits, s.leaves.len, ap (length {A = ℕ}) s.leaves.bytes)
 
@@ -113,16 +113,16 @@ no_arrival : (o : Option ℕ) → o ≡ None → IsSome o → ⊥
 no_arrival None e s = cc
 no_arrival (Some n) e s = cc
 
-still_of : (g : List Happened) (t : Turn) → (t ≡ turn.Offer) ⊎ (t ≡ turn.End) → turned t g ≡ g
+still_of : (g : List LabelledEvent) (t : Turn) → (t ≡ turn.Offer) ⊎ (t ≡ turn.End) → turned t g ≡ g
 still_of g t (inl e) = ap (λ (k : Turn). turned k g) e
 still_of g t (inr e) = ap (λ (k : Turn). turned k g) e
 
-module _ {x : Setup} {m : Moment} {arrived : List Captured} {w : DrawnWords} {g : List Happened} (u : IsUnderway x m arrived w g) where
+module _ {x : Setup} {m : Moment} {arrived : List Captured} {w : DrawnWords} {g : List LabelledEvent} (u : IsUnderway x m arrived w g) where
   -- nothing is due, so nothing is to come
   end_made : (arrival : Option ℕ) → due x.policy x.rate x.seed (bare_arrivals arrived) g ≡ None → AreMade x arrived g arrival
   end_made arrival d = record {
     all = λ _. d;
-    next = λ a there. absurd (not_both (slice_get (bare_arrivals arrived) (offered (bare g))) (bare_arrival a)
+    next = λ a there. absurd (not_both (slice_get (bare_arrivals arrived) (offered (unlabelled g))) (bare_arrival a)
         (is_over x.policy x.rate x.seed (bare_arrivals arrived) g u.setup.sound.positive u.setup.sound.lawful u.going.rising (begun_of (on u)).events d).all_came
         (is_bare_arrival arrived g a there).seen);
   }
@@ -140,11 +140,11 @@ module _ {x : Setup} {m : Moment} {arrived : List Captured} {w : DrawnWords} {g 
   pub still_under : {n : Moment} (t : Turn) → n.shown.policy ≡ m.shown.policy → n.progress.clock.rate ≡ m.progress.clock.rate → (t ≡ turn.Offer) ⊎ (t ≡ turn.End)
       → Goes n arrived w (turned t g) → AreWritten x n.files n.outputs n.told arrived g → IsUnderway x n arrived w g
   still_under {n} t p r e y written =
-      let P : List Happened → Type 0 = λ h. Goes n arrived w h in
+      let P : List LabelledEvent → Type 0 = λ h. Goes n arrived w h in
       record { setup = moved_on u.setup p r refl; going = subst P (still_of g t e) y; written = written }
 
 -- the next arrival stays so after sendings
-pub arrives_same : (arrived : List Captured) (g k : List Happened) → offered (bare k) ≡ offered (bare g) → arrives arrived g ≡ arrives arrived k
+pub arrives_same : (arrived : List Captured) (g k : List LabelledEvent) → offered (unlabelled k) ≡ offered (unlabelled g) → arrives arrived g ≡ arrives arrived k
 arrives_same arrived g k e = ap (λ (n : ℕ). option_map (λ (a : Arrival). a.at) (slice_get (bare_arrivals arrived) n)) (sym e)
 
 -- events before the offer of an arrival that is known stay due
@@ -152,18 +152,18 @@ one_less : (e : Event) (h : List Event) (n : ℕ) → offered (e ∷ h) ≤ n �
 one_less (Offered a w v) h n l = omega (arith, l)
 one_less (Sent s) h n l = l
 
-pub open_stays : (x : Setup) (arrived : List Captured) (g : List Happened) (n : ℕ) → n < length (bare_arrivals arrived) → offered (bare g) ≤ n
+pub open_stays : (x : Setup) (arrived : List Captured) (g : List LabelledEvent) (n : ℕ) → n < length (bare_arrivals arrived) → offered (unlabelled g) ≤ n
     → AreDue x.policy x.rate x.seed (bare_arrivals arrived) g → StayDue x arrived g
 open_stays x arrived [] n l o d = λ more. tt
 open_stays x arrived (e ∷ g) n l o d =
-    λ more. later_arrivals x.policy x.rate x.seed (bare_arrivals arrived) more e g (omega (arith, l, one_less e.what (bare g) n o)) d
+    λ more. later_arrivals x.policy x.rate x.seed (bare_arrivals arrived) more e g (omega (arith, l, one_less e.what (unlabelled g) n o)) d
 
 one_before : (e : Event) (h : List Event) → WasOffered e → offered (e ∷ h) ≡ offered h + 1
 one_before (Offered a w v) h o = refl
 one_before (Sent s) h o = absurd o
 
-pub offered_stays : (x : Setup) (arrived : List Captured) (g : List Happened) → offered (bare g) ≤ length (bare_arrivals arrived) → EndsWithOffer g
+pub offered_stays : (x : Setup) (arrived : List Captured) (g : List LabelledEvent) → offered (unlabelled g) ≤ length (bare_arrivals arrived) → EndsWithOffer g
     → AreDue x.policy x.rate x.seed (bare_arrivals arrived) g → StayDue x arrived g
 offered_stays x arrived [] l o d = λ more. tt
 offered_stays x arrived (e ∷ g) l o d =
-    λ more. later_arrivals x.policy x.rate x.seed (bare_arrivals arrived) more e g (omega (arith, l, one_before e.what (bare g) o)) d
+    λ more. later_arrivals x.policy x.rate x.seed (bare_arrivals arrived) more e g (omega (arith, l, one_before e.what (unlabelled g) o)) d

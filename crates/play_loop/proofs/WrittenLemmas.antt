@@ -4,7 +4,7 @@ use Rattle.std.specs.declared.option.Option.{Option}
 use Rattle.altq_model.specs.declared.Counts.{Counts}
 use Rattle.altq_model.specs.declared.Placed.{Placed}
 use Rattle.altq_model.specs.Arrivals.{Captured, bare_arrival}
-use Rattle.altq_model.specs.History.{DrawnWords, Happened, bare, drawn, offered, journal}
+use Rattle.altq_model.specs.History.{DrawnWords, LabelledEvent, unlabelled, drawn, offered, journal}
 use Rattle.altq_model.specs.Play.{offer_of}
 use Rattle.play_base.specs.View.{View}
 use Rattle.play_text.specs.Names.{name_of}
@@ -21,13 +21,13 @@ use Rattle.play_loop.specs.KeptFates.{dropped_fates, kept_fates, sent_fate}
 use Rattle.play_loop.specs.Outputs.{AddsDropped, AddsSent, HasFronts, SameFiles, StopsDropped, StopsSent, dropped_counts, dropped_rows}
 use Rattle.play_loop.specs.Reading.{arrival_of}
 use Rattle.play_loop.specs.Setup.{Setup, departures_of, fates_of}
-use Rattle.play_loop.specs.Underway.{AreWritten, HasGiven, IsBroken, IsHeld, Moment}
+use Rattle.play_loop.specs.Underway.{AreWritten, HasGiven, IsBroken, IsNextArrival, Moment}
 use Rattle.class_counts.proofs.CountingLemmas.{counted_by, counted_sent}
 use Rattle.play_loop.proofs.OutputLemmas.{fronts_files, fronts_same, texts_same}
 use Rattle.play_loop.proofs.TextLemmas.{departures_offered, departures_sent, fates_offered, fates_sent, told_offered, told_sent}
 use Rattle.play_loop.proofs.TurnLemmas.{IsOn, IsSent, begun_of}
 
-module _ {x : Setup} {l : Moment} {arrived : List Captured} {w : DrawnWords} {g : List Happened} {d : Departure} (s : IsSent x l arrived w g d) where
+module _ {x : Setup} {l : Moment} {arrived : List Captured} {w : DrawnWords} {g : List LabelledEvent} {d : Departure} (s : IsSent x l arrived w g d) where
   pub written_sent : {u v : View} {p q : Outputs} {told after : List KeptFate → Type 0} → AreWritten x u p told arrived g → AddsSent x.dress x.names u v p q d
       → ((ks : List KeptFate) → told ks → after (ks ++ sent_fate d ∷ [])) → AreWritten x v q after arrived (departs d ∷ g)
   written_sent {p = p} {after = after} y a tells =
@@ -47,30 +47,30 @@ module _ {x : Setup} {l : Moment} {arrived : List Captured} {w : DrawnWords} {g 
   }
 
 -- whatever memory is left to the next packet that is kept
-pub written_spare : {x : Setup} {v : View} {o : Outputs} {spare : Spare} {told : List KeptFate → Type 0} {arrived : List Captured} {g : List Happened} → AreWritten x v o told arrived g
+pub written_spare : {x : Setup} {v : View} {o : Outputs} {spare : Spare} {told : List KeptFate → Type 0} {arrived : List Captured} {g : List LabelledEvent} → AreWritten x v o told arrived g
     → AreWritten x v (record o { spare = spare }) told arrived g
 written_spare y = record { given = y.given; counted = y.counted; was_told = y.was_told; fit = y.fit }
 
 -- the offer of the next packet, and what was told of it
-pub record IsOffered (x : Setup) (m : Moment) (arrived : List Captured) (w : DrawnWords) (g : List Happened) (a : Arriving) (back : Option Dropped) : Type 0 where
-  pub held : IsHeld x.place arrived g a
-  pub words : w.drawn ≡ drawn (bare g)
-  pub back_is : back ≡ drop_of (m.shown.policy.answer (bare g) w (bare_arrival (arrival_of x.place a))).verdict a.packet
+pub record IsOffered (x : Setup) (m : Moment) (arrived : List Captured) (w : DrawnWords) (g : List LabelledEvent) (a : Arriving) (back : Option Dropped) : Type 0 where
+  pub held : IsNextArrival x.place arrived g a
+  pub words : w.drawn ≡ drawn (unlabelled g)
+  pub back_is : back ≡ drop_of (m.shown.policy.answer (unlabelled g) w (bare_arrival (arrival_of x.place a))).verdict a.packet
 
 -- the history with it
-abbrev pub offered_by : Setup → Moment → DrawnWords → List Happened → Arriving → List Happened
+abbrev pub offered_by : Setup → Moment → DrawnWords → List LabelledEvent → Arriving → List LabelledEvent
 offered_by x m w g a = offer_of m.shown.policy w.seed g (bare_arrival (arrival_of x.place a)) ∷ g
 
 -- it was made, and the play goes on with it
-pub record IsOfferMade (x : Setup) (m n : Moment) (arrived : List Captured) (w v : DrawnWords) (g : List Happened) (a : Arriving) (back : Option Dropped) : Type 0 where
+pub record IsOfferMade (x : Setup) (m n : Moment) (arrived : List Captured) (w v : DrawnWords) (g : List LabelledEvent) (a : Arriving) (back : Option Dropped) : Type 0 where
   pub offered : IsOffered x m arrived w g a back
   pub on : IsOn x n arrived v (offered_by x m w g a)
 
-module _ {x : Setup} {l : Moment} {arrived : List Captured} {w : DrawnWords} {g : List Happened} {a : Arriving} {back : Option Dropped} (o : IsOffered x l arrived w g a back) where
-  back_of : back ≡ drop_of (l.shown.policy.answer (bare g) (record { seed = w.seed; drawn = drawn (bare g) }) (bare_arrival (arrival_of x.place a))).verdict a.packet
+module _ {x : Setup} {l : Moment} {arrived : List Captured} {w : DrawnWords} {g : List LabelledEvent} {a : Arriving} {back : Option Dropped} (o : IsOffered x l arrived w g a back) where
+  back_of : back ≡ drop_of (l.shown.policy.answer (unlabelled g) (record { seed = w.seed; drawn = drawn (unlabelled g) }) (bare_arrival (arrival_of x.place a))).verdict a.packet
   back_of =
       o.back_is
-      ∙ ap (λ (n : ℕ). drop_of (l.shown.policy.answer (bare g) (record { seed = w.seed; drawn = n }) (bare_arrival (arrival_of x.place a))).verdict a.packet) o.words
+      ∙ ap (λ (n : ℕ). drop_of (l.shown.policy.answer (unlabelled g) (record { seed = w.seed; drawn = n }) (bare_arrival (arrival_of x.place a))).verdict a.packet) o.words
 
   -- the row that it adds, what it tells, and what it counts
   rows_after : fates_of x arrived g ++ dropped_rows (name_of x.names) a.placed.class back ≡ fates_of x arrived (offered_by x l w g a)
@@ -88,8 +88,8 @@ module _ {x : Setup} {l : Moment} {arrived : List Captured} {w : DrawnWords} {g 
       → HasCounted x.names arrived (journal (offered_by x l w g a)) (dropped_counts x.names a.placed.class back ks)
   counted_after ks k =
       let b : Captured = arrival_of x.place a in
-      rw back_of (counted_by x.names arrived (journal g) (offered (bare g) + 1) a.placed.class
-      (l.shown.policy.answer (bare g) (record { seed = w.seed; drawn = drawn (bare g) }) (bare_arrival b)).verdict a.packet ks k
+      rw back_of (counted_by x.names arrived (journal g) (offered (unlabelled g) + 1) a.placed.class
+      (l.shown.policy.answer (unlabelled g) (record { seed = w.seed; drawn = drawn (unlabelled g) }) (bare_arrival b)).verdict a.packet ks k
       (ap (λ (q : Placed). q.class) o.held.placed_is ∙ ap (λ (q : Captured). q.class) (sym (is_bare_arrival arrived g b o.held.there).numbered_is)))
 
   pub written_offered : {u v : View} {p q : Outputs} {told after : List KeptFate → Type 0} → AreWritten x u p told arrived g → AddsDropped x.names u v p q a.placed.class back

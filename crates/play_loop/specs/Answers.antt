@@ -1,6 +1,6 @@
 -- What the play of a capture answers, before its statistics are written.
 use Rattle.std.specs.Prelude.{List, Result, Ok, Err}
-use Rattle.altq_model.specs.History.{Happened}
+use Rattle.altq_model.specs.History.{LabelledEvent}
 use Rattle.play_base.specs.View.{View, SameCounts}
 use Rattle.play_loop.specs.declared.outputs.Tally.{Tally}
 use Rattle.play_loop.specs.declared.ending.Ending.{Ending}
@@ -24,18 +24,18 @@ answer_of (Cut fault) t = Err (capture_fault fault)
 answer_of Late t = Err (play.Limit limit.Clock)
 
 -- the whole play
-pub record IsWhole (x : Setup) (stood : List Happened → Type 0) (told : List KeptFate → Type 0) (old new : View) (o : Opened) (t : Tally) : Type 0 where
+pub record IsWhole (x : Setup) (stood : List LabelledEvent → Type 0) (told : List KeptFate → Type 0) (old new : View) (o : Opened) (t : Tally) : Type 0 where
   pub done : Writes x stood told old new o t
   pub decided : HasDecided x told t.totals
   pub countable : AreCountable x.names t.counts.items
   pub no_fault : SameCounts old new
 
 -- why it broke off, and the fronts that the files hold then
-pub record IsBrokenOff (x : Setup) (stood : List Happened → Type 0) (old new : View) (o : Opened) (fault : PlayFault) : Type 0 where
+pub record IsBrokenOff (x : Setup) (stood : List LabelledEvent → Type 0) (old new : View) (o : Opened) (fault : PlayFault) : Type 0 where
   pub why : Explains x stood old new o fault
   pub front : Fronts x old new o
   pub before_stats : IsBeforeStats fault
 
-abbrev pub IsAnswer : Setup → (List Happened → Type 0) → (List KeptFate → Type 0) → (old new : View) → Opened → Result Tally PlayFault → Type 0
+abbrev pub IsAnswer : Setup → (List LabelledEvent → Type 0) → (List KeptFate → Type 0) → (old new : View) → Opened → Result Tally PlayFault → Type 0
 IsAnswer x stood told old new o (Ok t) = IsWhole x stood told old new o t
 IsAnswer x stood told old new o (Err f) = IsBrokenOff x stood old new o f

@@ -2,14 +2,14 @@
 use Rattle.std.specs.Prelude.{◌≡◌, ◌≤◌, ◌<◌, ◌⊎◌, ℕ, List, [], ◌∷◌, ◌++◌, length, None}
 use Rattle.altq_model.specs.declared.Placed.{Placed}
 use Rattle.altq_model.specs.Arrivals.{Captured, arrivals_of, bare_arrivals}
-use Rattle.altq_model.specs.History.{DrawnWords, Happened, bare, offered}
+use Rattle.altq_model.specs.History.{DrawnWords, LabelledEvent, unlabelled, offered}
 use Rattle.altq_model.specs.Lawful.{greatest}
 use Rattle.altq_model.specs.Play.{AreDue, due}
 use Rattle.capture_model.specs.Capture.{Record, Step, Fault, Limit, Reads, IsLast, IsCapture, place_after, most_bytes}
 use Rattle.pcap_files.specs.declared.fault.CaptureFault.{CaptureFault}
 use Rattle.pcap_files.specs.declared.fault.CaptureFault.TheVariants as capture
 use Rattle.pcap_files.specs.declared.reader.Reader.{Reader}
-use Rattle.pcap_files.specs.Reading.{AreAllTaken, StandsFor}
+use Rattle.pcap_files.specs.Reading.{AreAllTaken, Represents}
 use Rattle.play_base.specs.View.{View}
 use Rattle.play_core.specs.Ended.{IsCutOff}
 use Rattle.play_core.specs.Finished.{EndsWithOffer}
@@ -61,29 +61,30 @@ pub record IsAhead (place : List ℕ → Placed) (v : View) (r : Reader) (bytes 
   pub before : List Record
   pub last : Record
   pub arrivals : arrived ≡ arrivals_of place (before ++ last ∷ [])
-  pub stands : StandsFor v r bytes (before ++ last ∷ [])
+  pub stands : Represents v r bytes (before ++ last ∷ [])
   pub sound : r.fault ≡ None
   pub passed : greatest 0 before ≤ moment
   pub later : moment < greatest 0 (before ++ last ∷ [])
 
 -- they are the first arrivals of all complete records, and `g` are the first events of the play
-abbrev pub AreFirst : Setup → (told : List ℕ → Type 0) → List Captured → List Happened → Type 0
+abbrev pub AreFirst : Setup → (told : List ℕ → Type 0) → List Captured → List LabelledEvent → Type 0
 AreFirst x told arrived g = (bytes : List ℕ) → told bytes → (all : List Record) (last : Step) → Reads bytes all last → IsLast last
     → (more : List Captured) × (arrivals_in x all ≡ arrived ++ more) × AreDue x.policy x.rate x.seed (bare_arrivals (arrived ++ more)) g
 
 -- every event was made
-pub record IsDone (x : Setup) (told : List ℕ → Type 0) (arrived : List Captured) (g : List Happened) : Type 0 where
+pub record IsDone (x : Setup) (told : List ℕ → Type 0) (arrived : List Captured) (g : List LabelledEvent) : Type 0 where
   pub done : due x.policy x.rate x.seed (bare_arrivals arrived) g ≡ None
   pub all : (bytes : List ℕ) → told bytes → IsAll x.place bytes arrived
 
 -- every complete record was offered, the last of them last
-pub record IsStuck (place : List ℕ → Placed) (told : List ℕ → Type 0) (v : View) (file : ℕ) (arrived : List Captured) (g : List Happened) (fault : CaptureFault) : Type 0 where
-  pub offers : offered (bare g) ≡ length arrived
+pub record IsStuck (place : List ℕ → Placed) (told : List ℕ → Type 0) (v : View) (file : ℕ) (arrived : List Captured) (g : List LabelledEvent)
+    (fault : CaptureFault) : Type 0 where
+  pub offers : offered (unlabelled g) ≡ length arrived
   pub last : EndsWithOffer g
   pub faulty : (bytes : List ℕ) → told bytes → IsFaulty place v file bytes arrived fault
 
 -- the next sending would end too late, and starts before the last arrival that was read, or no more arrive
-pub record IsOverdue (x : Setup) (told : List ℕ → Type 0) (v : View) (r : Reader) (arrived : List Captured) (g : List Happened) : Type 0 where
+pub record IsOverdue (x : Setup) (told : List ℕ → Type 0) (v : View) (r : Reader) (arrived : List Captured) (g : List LabelledEvent) : Type 0 where
   pub cut : IsCutOff x.policy x.rate x.seed (bare_arrivals arrived) g
   pub first : AreFirst x told arrived (cut.next ∷ g)
   pub ahead : (bytes : List ℕ) → told bytes → IsPast x.place bytes arrived (start_of cut.next.what) ⊎ IsAhead x.place v r bytes arrived (start_of cut.next.what)
@@ -94,7 +95,7 @@ IsClean Whole = Unit {0}
 IsClean (Cut fault) = ⊥
 IsClean Late = Unit {0}
 
-abbrev pub EndsAs : Ending → Setup → (told : List ℕ → Type 0) → View → Reader → List Captured → List Happened → Type 0
+abbrev pub EndsAs : Ending → Setup → (told : List ℕ → Type 0) → View → Reader → List Captured → List LabelledEvent → Type 0
 EndsAs Whole x told v r arrived g = IsDone x told arrived g
 EndsAs (Cut fault) x told v r arrived g = IsStuck x.place told v r.file arrived g fault
 EndsAs Late x told v r arrived g = IsOverdue x told v r arrived g
@@ -102,7 +103,7 @@ EndsAs Late x told v r arrived g = IsOverdue x told v r arrived g
 -- the records that a reader had left were played, up to this end
 pub record HasRun (x : Setup) (told : List ℕ → Type 0) (m : Moment) (r : Reader) (w : DrawnWords) (ending : Ending) : Type 0 where
   pub arrived : List Captured
-  pub events : List Happened
+  pub events : List LabelledEvent
   pub under : IsUnderway x m arrived w events
   pub ends : EndsAs ending x told m.files r arrived events
   pub first : AreFirst x told arrived events
@@ -110,6 +111,6 @@ pub record HasRun (x : Setup) (told : List ℕ → Type 0) (m : Moment) (r : Rea
 -- or up to a write that failed
 pub record HasBroken (x : Setup) (told : List ℕ → Type 0) (v : View) (o : Outputs) : Type 0 where
   pub arrived : List Captured
-  pub events : List Happened
+  pub events : List LabelledEvent
   pub broken : IsBroken x v o arrived events
   pub first : AreFirst x told arrived events

@@ -2,7 +2,7 @@
 use Rattle.std.specs.Prelude.{◌≡◌, ◌≤◌, ◌<◌, ◌+◌, ◌⊎◌, ℕ, List, [], ◌∷◌, ◌++◌, length, Some, IsTrue, IsSome}
 use Rattle.altq_model.specs.Arrivals.{Captured, bare_arrivals}
 use Rattle.altq_model.specs.Departures.{departed}
-use Rattle.altq_model.specs.History.{Event, Offered, Sent, Happened, bare, offered, journal}
+use Rattle.altq_model.specs.History.{Event, Offered, Sent, LabelledEvent, unlabelled, offered, journal}
 use Rattle.altq_model.specs.Lawful.{greatest}
 use Rattle.capture_model.specs.Capture.{Record, Step, End, Fault, Limit, Reads, IsCapture, IsLast, place_after}
 use Rattle.pcap_files.specs.Reading.{AreAllTaken}
@@ -43,23 +43,24 @@ pub record AreReady (v : View) (o : Opened) : Type 0 where
   pub fates_from_stats : Apart v o.fates o.stats
 
 -- the files hold the departures and the fates of this history
-pub record HoldTexts (v : View) (o : Opened) (x : Setup) (arrived : List Captured) (g : List Happened) : Type 0 where
+pub record HoldTexts (v : View) (o : Opened) (x : Setup) (arrived : List Captured) (g : List LabelledEvent) : Type 0 where
   pub departures : HoldsAt v o.departures (departures_of x arrived g)
   pub fates : HoldsAt v o.fates (fates_of x arrived g)
 
 -- they hold a front of each
-pub record HoldFronts (v : View) (o : Opened) (x : Setup) (arrived : List Captured) (g : List Happened) : Type 0 where
+pub record HoldFronts (v : View) (o : Opened) (x : Setup) (arrived : List Captured) (g : List LabelledEvent) : Type 0 where
   pub departures : HoldsFront v o.departures (departures_of x arrived g)
   pub fates : HoldsFront v o.fates (fates_of x arrived g)
 
 -- a discipline stands for a history of the same events
-abbrev pub IsStanding : (List Happened → Type 0) → List Happened → Type 0
-IsStanding stood g = (told : List Happened) × stood told × (bare told ≡ bare g)
+abbrev pub IsStanding : (List LabelledEvent → Type 0) → List LabelledEvent → Type 0
+IsStanding stood g = (told : List LabelledEvent) × stood told × (unlabelled told ≡ unlabelled g)
 
 -- the whole play of these records: departures and fates hold its texts, and these are its counts. The departures are a capture of the
 -- packets that were sent, in the order of decision, the discipline stands for it, and its journal was told
-pub record WasWritten (x : Setup) (stood : List Happened → Type 0) (told : List KeptFate → Type 0) (v : View) (o : Opened) (records : List Record) (t : Tally) : Type 0 where
-  pub history : List Happened
+pub record WasWritten (x : Setup) (stood : List LabelledEvent → Type 0) (told : List KeptFate
+    → Type 0) (v : View) (o : Opened) (records : List Record) (t : Tally) : Type 0 where
+  pub history : List LabelledEvent
   pub play : IsFinished x.policy x.rate x.seed (arrivals_in x records) history t.totals
   pub texts : HoldTexts v o x (arrivals_in x records) history
   pub counted : HasCounted x.names (arrivals_in x records) (journal history) t.counts.items
@@ -68,8 +69,8 @@ pub record WasWritten (x : Setup) (stood : List Happened → Type 0) (told : Lis
   pub was_told : told (kept_fates (arrivals_in x records) (journal history))
 
 -- the same but for what was told, and the statistics hold those of the play
-pub record HasPlayed (x : Setup) (stood : List Happened → Type 0) (v : View) (o : Opened) (records : List Record) (t : Totals) : Type 0 where
-  pub history : List Happened
+pub record HasPlayed (x : Setup) (stood : List LabelledEvent → Type 0) (v : View) (o : Opened) (records : List Record) (t : Totals) : Type 0 where
+  pub history : List LabelledEvent
   pub play : IsFinished x.policy x.rate x.seed (arrivals_in x records) history t
   pub texts : HoldTexts v o x (arrivals_in x records) history
   pub stats : HoldsAt v o.stats (statistics_of x (arrivals_in x records) history)
@@ -78,10 +79,10 @@ pub record HasPlayed (x : Setup) (stood : List Happened → Type 0) (v : View) (
 
 -- the first events of the play of these records, up to and with the offer of the last of them, each sending in time: the files hold
 -- exactly their texts. These are all drops of these records, and all sendings that start before the last of them arrives
-pub record HasOffered (x : Setup) (stood : List Happened → Type 0) (v : View) (o : Opened) (records : List Record) : Type 0 where
-  pub history : List Happened
+pub record HasOffered (x : Setup) (stood : List LabelledEvent → Type 0) (v : View) (o : Opened) (records : List Record) : Type 0 where
+  pub history : List LabelledEvent
   pub begun : IsBegun x.policy x.rate x.seed (bare_arrivals (arrivals_in x records)) history
-  pub all : offered (bare history) ≡ length records
+  pub all : offered (unlabelled history) ≡ length records
   pub last : EndsWithOffer history
   pub texts : HoldTexts v o x (arrivals_in x records) history
   pub stands : IsStanding stood history
@@ -105,8 +106,9 @@ Streams v file bytes records moment = (before : List Record) (r : Record) (after
 
 -- the play of these records up to a sending that is due next and would end too late: the files hold exactly the texts of the events
 -- before it. Where the records are not a whole capture, it starts before the last of them arrives
-pub record WasCutOff (x : Setup) (stood : List Happened → Type 0) (v : View) (o : Opened) (bytes : List ℕ) (records : List Record) (last : Step) : Type 0 where
-  pub history : List Happened
+pub record WasCutOff (x : Setup) (stood : List LabelledEvent
+    → Type 0) (v : View) (o : Opened) (bytes : List ℕ) (records : List Record) (last : Step) : Type 0 where
+  pub history : List LabelledEvent
   pub totals : Totals
   pub play : IsStopped x.policy x.rate x.seed (arrivals_in x records) history totals
   pub texts : HoldTexts v o x (arrivals_in x records) history
@@ -116,7 +118,7 @@ pub record WasCutOff (x : Setup) (stood : List Happened → Type 0) (v : View) (
 
 -- the files hold fronts of the texts of the first events of the play
 pub record HasStopped (x : Setup) (v : View) (o : Opened) (records : List Record) : Type 0 where
-  pub history : List Happened
+  pub history : List LabelledEvent
   pub begun : IsBegun x.policy x.rate x.seed (bare_arrivals (arrivals_in x records)) history
   pub texts : HoldFronts v o x (arrivals_in x records) history
 
@@ -125,10 +127,10 @@ abbrev pub OfArrivals : View → Opened → (List ℕ → Type 0) → Type 0
 OfArrivals old o P = IsTrue old.tells → (rest : List ℕ) → old.left o.arrivals ≡ Some rest → P (o.first.now ++ rest)
 
 -- what the arrivals hold is a capture, and its play ended
-abbrev pub Writes : Setup → (List Happened → Type 0) → (List KeptFate → Type 0) → View → View → Opened → Tally → Type 0
+abbrev pub Writes : Setup → (List LabelledEvent → Type 0) → (List KeptFate → Type 0) → View → View → Opened → Tally → Type 0
 Writes x stood told old new o t = OfArrivals old o (λ bytes. (records : List Record) × IsCapture bytes records × WasWritten x stood told new o records t)
 
-abbrev pub Plays : Setup → (List Happened → Type 0) → View → View → Opened → Totals → Type 0
+abbrev pub Plays : Setup → (List LabelledEvent → Type 0) → View → View → Opened → Totals → Type 0
 Plays x stood old new o t = OfArrivals old o (λ bytes. (records : List Record) × IsCapture bytes records × HasPlayed x stood new o records t)
 
 -- the files hold fronts of the texts of the play of its complete records
@@ -136,20 +138,21 @@ abbrev pub Fronts : Setup → View → View → Opened → Type 0
 Fronts x old new o = OfArrivals old o (λ bytes. (records : List Record) (last : Step) → Reads bytes records last → IsLast last → HasStopped x new o records)
 
 -- all complete records were offered, and the reading of the capture ends with `last`
-abbrev pub Offers : Setup → (List Happened → Type 0) → View → View → Opened → Step → Type 0
+abbrev pub Offers : Setup → (List LabelledEvent → Type 0) → View → View → Opened → Step → Type 0
 Offers x stood old new o last = OfArrivals old o (λ bytes. (records : List Record) × Reads bytes records last × HasOffered x stood new o records)
 
 -- the complete records of the bytes that were taken from the arrivals were all offered
-abbrev pub OffersTaken : Setup → (List Happened → Type 0) → View → View → Opened → Type 0
-OffersTaken x stood old new o = OfArrivals old o (λ bytes. (records : List Record) × AreAllTaken new o.arrivals bytes records × HasOffered x stood new o records)
+abbrev pub OffersTaken : Setup → (List LabelledEvent → Type 0) → View → View → Opened → Type 0
+OffersTaken x stood old new o = OfArrivals old o (λ bytes. (records : List Record) × AreAllTaken new o.arrivals bytes records
+    × HasOffered x stood new o records)
 
 -- the play of its complete records was cut off
-abbrev pub IsLate : Setup → (List Happened → Type 0) → View → View → Opened → Type 0
+abbrev pub IsLate : Setup → (List LabelledEvent → Type 0) → View → View → Opened → Type 0
 IsLate x stood old new o = OfArrivals old o (λ bytes. (records : List Record) × ((last : Step) × Reads bytes records last × IsLast last
     × WasCutOff x stood new o bytes records last))
 
 -- when each fault of a play comes
-abbrev pub Explains : Setup → (List Happened → Type 0) → View → View → Opened → PlayFault → Type 0
+abbrev pub Explains : Setup → (List LabelledEvent → Type 0) → View → View → Opened → PlayFault → Type 0
 Explains x stood old new o (play.Capture damage) = Offers x stood old new o (Fault damage)
 Explains x stood old new o play.Read = ReadFault old new o.arrivals × OffersTaken x stood old new o
 Explains x stood old new o (play.Write output.Departures) = WriteFault old new o.departures
@@ -161,7 +164,7 @@ Explains x stood old new o play.NoMemory = Unit {0}
 
 -- the statistics hold a front of those of the whole play of these records, behind departures and fates that hold all of its texts
 pub record HasBegunStats (x : Setup) (v : View) (o : Opened) (records : List Record) : Type 0 where
-  pub history : List Happened
+  pub history : List LabelledEvent
   pub play : IsPlay x.policy x.rate x.seed (bare_arrivals (arrivals_in x records)) history
   pub texts : HoldTexts v o x (arrivals_in x records) history
   pub stats : HoldsFront v o.stats (statistics_of x (arrivals_in x records) history)

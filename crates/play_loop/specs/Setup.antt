@@ -3,7 +3,7 @@ use Rattle.std.specs.Prelude.{◌<◌, ◌≤◌, ℕ, List}
 use Rattle.altq_model.specs.declared.Placed.{Placed}
 use Rattle.altq_model.specs.Arrivals.{Captured, arrivals_of}
 use Rattle.altq_model.specs.Departures.{Dressing, departures}
-use Rattle.altq_model.specs.History.{Happened, journal}
+use Rattle.altq_model.specs.History.{LabelledEvent, journal}
 use Rattle.altq_model.specs.Lawful.{IsLawful, IsOneOf, IsSteady}
 use Rattle.altq_model.specs.Play.{Policy}
 use Rattle.discipline.specs.Laws.{AreDistinct}
@@ -31,13 +31,13 @@ abbrev pub arrivals_in : Setup → List Record → List Captured
 arrivals_in x records = arrivals_of x.place records
 
 -- the departures, the fates and the statistics of a history of these arrivals
-abbrev pub departures_of : Setup → List Captured → List Happened → List ℕ
+abbrev pub departures_of : Setup → List Captured → List LabelledEvent → List ℕ
 departures_of x arrived g = departures x.dress arrived g
 
-abbrev pub fates_of : Setup → List Captured → List Happened → List ℕ
+abbrev pub fates_of : Setup → List Captured → List LabelledEvent → List ℕ
 fates_of x arrived g = fates (name_of x.names) arrived (journal g)
 
-abbrev pub statistics_of : Setup → List Captured → List Happened → List ℕ
+abbrev pub statistics_of : Setup → List Captured → List LabelledEvent → List ℕ
 statistics_of x arrived g = statistics x.names arrived (journal g)
 
 -- what a discipline, a link and a classifier promise of a setup: each frame is placed in a class of the policy that has a name

@@ -3,7 +3,7 @@ ghost use Rattle.std.specs.Prelude.{◌≡◌, ◌<◌, ◌^◌, ℕ, List};
 ghost use Rattle.play_text.specs.Names.{HasClass};
 ghost use Rattle.class_counts.specs.Counting.{AreCountable, count_at};
 ghost use Rattle.pcap_files.specs.Reading.{told_of};
-ghost use Rattle.play_loop.specs.Reading.{IsRead, IsWithin};
+ghost use Rattle.play_loop.specs.Reading.{IsRead, ArrivalFits};
 
 use altq_model::{Counts, Placed};
 use class_counts::{Counted, count};
@@ -35,8 +35,9 @@ pub fn arrive<'a, C: Classify>(
     ensures read { IsRead (told_of read.now) latest result }
     ensures number { result.packet.number ≡ number }
     ensures placed { result.placed ≡ C.placed classify.now result.packet.bytes.now }
-    ensures within { IsWithin result }
-    ensures counted { counts.new.items ≡ count_at names.now (C.placed classify.now result.packet.bytes.now).class (Counted.Arrived result.packet.len result.raised) counts.old.items }
+    ensures within { ArrivalFits result }
+    ensures counted { counts.new.items ≡ count_at names.now (C.placed classify.now result.packet.bytes.now).class
+        (Counted.Arrived result.packet.len result.raised) counts.old.items }
 {
     let placed = classify.class(read.bytes);
     let raised = read.stamp < latest;

@@ -25,7 +25,7 @@ pub struct Kept {
 impl Kept {
     ghost use Rattle.play_loop.specs.KeptFates.{fates_in};
 
-    /// No fate. Takes no memory.
+    /// No fate. Does not allocate.
     pub fn new(alloc: Global) -> Kept
         ensures { fates_in result ≡ [] }
     {
@@ -35,14 +35,14 @@ impl Kept {
         }
     }
 
-    /// How many there are. Takes no memory.
+    /// How many there are. Does not allocate.
     pub fn len(&self) -> u64
         ensures { result ≡ length (fates_in self.now) }
     {
         self.fates.len() as u64
     }
 
-    /// The fate at a place, from 0. Takes no memory, in constant time.
+    /// The fate at a place, from 0. Does not allocate, in constant time.
     pub fn at(&self, place: u64) -> KeptFate
         requires { place < length (fates_in self.now) }
         ensures { slice_get (fates_in self.now) place ≡ Some result }

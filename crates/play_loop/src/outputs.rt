@@ -23,7 +23,7 @@ pub struct Outputs {
 }
 
 impl Outputs {
-    // Nothing is gathered yet. Takes no memory.
+    // Nothing is gathered yet. Does not allocate.
     pub fn new(alloc: Global, opened: &Opened<'_>, counts: Vec<Counts>) -> Outputs
         ensures files { AreOpened result opened.now }
         ensures records { result.records.items ≡ [] }

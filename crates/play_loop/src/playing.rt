@@ -16,7 +16,7 @@ ghost use Rattle.play_loop.specs.Played.{AreEmpty, AreReady, Explains, Fronts, L
 ghost use Rattle.play_loop.specs.Reading.{CanRead, StartsOn};
 ghost use Rattle.play_loop.specs.Setup.{IsSound, setup_of};
 ghost use Rattle.play_loop.specs.Told.{HasDecided, Tells};
-ghost use Rattle.play_loop.specs.Underway.{IsUnderway, moment, shown};
+ghost use Rattle.play_loop.specs.Underway.{IsUnderway, moment};
 
 use crate::arriving::arrive;
 use crate::ending::{Due, Ending, capture_fault};
@@ -88,20 +88,23 @@ pub fn play<D: Discipline, C: Classify, F: Files>(
     requires ready { AreReady (F.view files.old) opened.now }
     requires least { 1000 ≤ rate }
     requires most { rate ≤ 10 ^ 12 }
-    requires rate { HasRate (D.link_rate discipline.old) rate }
-    requires new { D.stands discipline.old [] }
+    requires rate { HasRate (D.view discipline.old).link_rate rate }
+    requires new { (D.view discipline.old).represents [] }
     requires fresh { words.old.drawn ≡ 0 }
-    requires held { (frame : List ℕ) → IsOneOf (C.placed classify.now frame).class (D.policy discipline.old).classes }
+    requires held { (frame : List ℕ) → IsOneOf (C.placed classify.now frame).class (D.view discipline.old).policy.classes }
     requires precs { (frame : List ℕ) → (C.placed classify.now frame).prec ≤ 2 }
     requires named { (frame : List ℕ) → HasClass names.now (C.placed classify.now frame).class }
-    ensures done { IfOk result (Plays (setup_of (D.policy discipline.old) (C.placed classify.now) (C.dressed classify.now) names.now rate words.old.seed)
-        (D.stands discipline.new) (F.view files.old) (F.view files.new) opened.now) }
+    ensures done { IfOk result (Plays (setup_of (D.view discipline.old).policy (C.placed classify.now) (C.dressed classify.now) names.now rate words.old.seed)
+        (D.view discipline.new).represents (F.view files.old) (F.view files.new) opened.now) }
     ensures no_fault { OnOk result (SameCounts (F.view files.old) (F.view files.new)) }
-    ensures why { IfErr result (Explains (setup_of (D.policy discipline.old) (C.placed classify.now) (C.dressed classify.now) names.now rate words.old.seed)
-        (D.stands discipline.new) (F.view files.old) (F.view files.new) opened.now) }
-    ensures front { OnErr result (Fronts (setup_of (D.policy discipline.old) (C.placed classify.now) (C.dressed classify.now) names.now rate words.old.seed)
+    ensures why { IfErr result (Explains (setup_of (D.view discipline.old).policy (C.placed classify.now)
+        (C.dressed classify.now) names.now rate words.old.seed)
+        (D.view discipline.new).represents (F.view files.old) (F.view files.new) opened.now) }
+    ensures front { OnErr result (Fronts (setup_of (D.view discipline.old).policy (C.placed classify.now)
+        (C.dressed classify.now) names.now rate words.old.seed)
         (F.view files.old) (F.view files.new) opened.now) }
-    ensures stats { IfErr result (LeavesStats (setup_of (D.policy discipline.old) (C.placed classify.now) (C.dressed classify.now) names.now rate words.old.seed)
+    ensures stats { IfErr result (LeavesStats (setup_of (D.view discipline.old).policy (C.placed classify.now)
+        (C.dressed classify.now) names.now rate words.old.seed)
         (F.view files.old) (F.view files.new) opened.now) }
     ensures keeps { KeepsPlayed opened.now (F.view files.old) (F.view files.new) }
     ensures none { NoneAppears (F.view files.old) (F.view files.new) }
@@ -137,24 +140,28 @@ pub fn play_kept<D: Discipline, C: Classify, F: Files>(
     requires ready { AreReady (F.view files.old) opened.now }
     requires least { 1000 ≤ rate }
     requires most { rate ≤ 10 ^ 12 }
-    requires rate { HasRate (D.link_rate discipline.old) rate }
-    requires new { D.stands discipline.old [] }
+    requires rate { HasRate (D.view discipline.old).link_rate rate }
+    requires new { (D.view discipline.old).represents [] }
     requires fresh { words.old.drawn ≡ 0 }
-    requires held { (frame : List ℕ) → IsOneOf (C.placed classify.now frame).class (D.policy discipline.old).classes }
+    requires held { (frame : List ℕ) → IsOneOf (C.placed classify.now frame).class (D.view discipline.old).policy.classes }
     requires precs { (frame : List ℕ) → (C.placed classify.now frame).prec ≤ 2 }
     requires named { (frame : List ℕ) → HasClass names.now (C.placed classify.now frame).class }
-    ensures done { IfOk result (Plays (setup_of (D.policy discipline.old) (C.placed classify.now) (C.dressed classify.now) names.now rate words.old.seed)
-        (D.stands discipline.new) (F.view files.old) (F.view files.new) opened.now) }
-    ensures kept { IfOk result (Tells (setup_of (D.policy discipline.old) (C.placed classify.now) (C.dressed classify.now) names.now rate words.old.seed)
-        (D.stands discipline.new) (λ ks. fates_in kept.new ≡ fates_in kept.old ++ ks) (F.view files.old) (F.view files.new) opened.now) }
-    ensures decided { IfOk result (HasDecided (setup_of (D.policy discipline.old) (C.placed classify.now) (C.dressed classify.now) names.now rate words.old.seed)
+    ensures done { IfOk result (Plays (setup_of (D.view discipline.old).policy (C.placed classify.now) (C.dressed classify.now) names.now rate words.old.seed)
+        (D.view discipline.new).represents (F.view files.old) (F.view files.new) opened.now) }
+    ensures kept { IfOk result (Tells (setup_of (D.view discipline.old).policy (C.placed classify.now) (C.dressed classify.now) names.now rate words.old.seed)
+        (D.view discipline.new).represents (λ ks. fates_in kept.new ≡ fates_in kept.old ++ ks) (F.view files.old) (F.view files.new) opened.now) }
+    ensures decided { IfOk result (HasDecided (setup_of (D.view discipline.old).policy (C.placed classify.now)
+        (C.dressed classify.now) names.now rate words.old.seed)
         (λ ks. fates_in kept.new ≡ fates_in kept.old ++ ks)) }
     ensures no_fault { OnOk result (SameCounts (F.view files.old) (F.view files.new)) }
-    ensures why { IfErr result (Explains (setup_of (D.policy discipline.old) (C.placed classify.now) (C.dressed classify.now) names.now rate words.old.seed)
-        (D.stands discipline.new) (F.view files.old) (F.view files.new) opened.now) }
-    ensures front { OnErr result (Fronts (setup_of (D.policy discipline.old) (C.placed classify.now) (C.dressed classify.now) names.now rate words.old.seed)
+    ensures why { IfErr result (Explains (setup_of (D.view discipline.old).policy (C.placed classify.now)
+        (C.dressed classify.now) names.now rate words.old.seed)
+        (D.view discipline.new).represents (F.view files.old) (F.view files.new) opened.now) }
+    ensures front { OnErr result (Fronts (setup_of (D.view discipline.old).policy (C.placed classify.now)
+        (C.dressed classify.now) names.now rate words.old.seed)
         (F.view files.old) (F.view files.new) opened.now) }
-    ensures stats { IfErr result (LeavesStats (setup_of (D.policy discipline.old) (C.placed classify.now) (C.dressed classify.now) names.now rate words.old.seed)
+    ensures stats { IfErr result (LeavesStats (setup_of (D.view discipline.old).policy (C.placed classify.now)
+        (C.dressed classify.now) names.now rate words.old.seed)
         (F.view files.old) (F.view files.new) opened.now) }
     ensures keeps { KeepsPlayed opened.now (F.view files.old) (F.view files.new) }
     ensures none { NoneAppears (F.view files.old) (F.view files.new) }
@@ -183,26 +190,30 @@ pub fn play_told<D: Discipline, C: Classify, F: Files, K: Keeper>(
     requires ready { AreReady (F.view files.old) opened.now }
     requires least { 1000 ≤ rate }
     requires most { rate ≤ 10 ^ 12 }
-    requires rate { HasRate (D.link_rate discipline.old) rate }
-    requires new { D.stands discipline.old [] }
+    requires rate { HasRate (D.view discipline.old).link_rate rate }
+    requires new { (D.view discipline.old).represents [] }
     requires fresh { words.old.drawn ≡ 0 }
-    requires held { (frame : List ℕ) → IsOneOf (C.placed classify.now frame).class (D.policy discipline.old).classes }
+    requires held { (frame : List ℕ) → IsOneOf (C.placed classify.now frame).class (D.view discipline.old).policy.classes }
     requires precs { (frame : List ℕ) → (C.placed classify.now frame).prec ≤ 2 }
     requires named { (frame : List ℕ) → HasClass names.now (C.placed classify.now frame).class }
     requires begun { K.told keeper.old [] }
-    ensures done { IfOk result (Plays (setup_of (D.policy discipline.old) (C.placed classify.now) (C.dressed classify.now) names.now rate words.old.seed)
-        (D.stands discipline.new) (F.view files.old) (F.view files.new) opened.now) }
-    ensures told { IfOk result (Tells (setup_of (D.policy discipline.old) (C.placed classify.now) (C.dressed classify.now) names.now rate words.old.seed)
-        (D.stands discipline.new) (K.told keeper.new) (F.view files.old) (F.view files.new) opened.now) }
-    ensures decided { IfOk result (HasDecided (setup_of (D.policy discipline.old) (C.placed classify.now) (C.dressed classify.now) names.now rate words.old.seed)
+    ensures done { IfOk result (Plays (setup_of (D.view discipline.old).policy (C.placed classify.now) (C.dressed classify.now) names.now rate words.old.seed)
+        (D.view discipline.new).represents (F.view files.old) (F.view files.new) opened.now) }
+    ensures told { IfOk result (Tells (setup_of (D.view discipline.old).policy (C.placed classify.now) (C.dressed classify.now) names.now rate words.old.seed)
+        (D.view discipline.new).represents (K.told keeper.new) (F.view files.old) (F.view files.new) opened.now) }
+    ensures decided { IfOk result (HasDecided (setup_of (D.view discipline.old).policy (C.placed classify.now)
+        (C.dressed classify.now) names.now rate words.old.seed)
         (K.told keeper.new)) }
     ensures before { K.before keeper.new ≡ K.before keeper.old }
     ensures no_fault { OnOk result (SameCounts (F.view files.old) (F.view files.new)) }
-    ensures why { IfErr result (Explains (setup_of (D.policy discipline.old) (C.placed classify.now) (C.dressed classify.now) names.now rate words.old.seed)
-        (D.stands discipline.new) (F.view files.old) (F.view files.new) opened.now) }
-    ensures front { OnErr result (Fronts (setup_of (D.policy discipline.old) (C.placed classify.now) (C.dressed classify.now) names.now rate words.old.seed)
+    ensures why { IfErr result (Explains (setup_of (D.view discipline.old).policy (C.placed classify.now)
+        (C.dressed classify.now) names.now rate words.old.seed)
+        (D.view discipline.new).represents (F.view files.old) (F.view files.new) opened.now) }
+    ensures front { OnErr result (Fronts (setup_of (D.view discipline.old).policy (C.placed classify.now)
+        (C.dressed classify.now) names.now rate words.old.seed)
         (F.view files.old) (F.view files.new) opened.now) }
-    ensures stats { IfErr result (LeavesStats (setup_of (D.policy discipline.old) (C.placed classify.now) (C.dressed classify.now) names.now rate words.old.seed)
+    ensures stats { IfErr result (LeavesStats (setup_of (D.view discipline.old).policy (C.placed classify.now)
+        (C.dressed classify.now) names.now rate words.old.seed)
         (F.view files.old) (F.view files.new) opened.now) }
     ensures keeps { KeepsPlayed opened.now (F.view files.old) (F.view files.new) }
     ensures none { NoneAppears (F.view files.old) (F.view files.new) }
@@ -240,14 +251,14 @@ fn play_capture<D: Discipline, C: Classify, F: Files, K: Keeper>(
     requires ready { AreReady (F.view files.old) opened.now }
     requires least { 1000 ≤ rate }
     requires most { rate ≤ 10 ^ 12 }
-    requires rate { HasRate (D.link_rate discipline.old) rate }
-    requires new { D.stands discipline.old [] }
+    requires rate { HasRate (D.view discipline.old).link_rate rate }
+    requires new { (D.view discipline.old).represents [] }
     requires fresh { words.old.drawn ≡ 0 }
-    requires sound { IsSound (setup_of (D.policy discipline.old) (C.placed classify.now) (C.dressed classify.now) names.now rate words.old.seed) }
+    requires sound { IsSound (setup_of (D.view discipline.old).policy (C.placed classify.now) (C.dressed classify.now) names.now rate words.old.seed) }
     requires none { HasCounted names.now [] [] counts.items }
     requires begun { K.told keeper.old [] }
-    ensures answer { IsAnswer (setup_of (D.policy discipline.old) (C.placed classify.now) (C.dressed classify.now) names.now rate words.old.seed)
-        (D.stands discipline.new) (K.told keeper.new) (F.view files.old) (F.view files.new) opened.now result }
+    ensures answer { IsAnswer (setup_of (D.view discipline.old).policy (C.placed classify.now) (C.dressed classify.now) names.now rate words.old.seed)
+        (D.view discipline.new).represents (K.told keeper.new) (F.view files.old) (F.view files.new) opened.now result }
     ensures before { K.before keeper.new ≡ K.before keeper.old }
     ensures others { OnlyPlayed opened.now.arrivals opened.now.departures opened.now.fates (F.view files.old) (F.view files.new) }
 {
@@ -287,20 +298,22 @@ fn play_opened<D: Discipline, C: Classify, F: Files, K: Keeper>(
     requires ready { AreReady (F.view files.old) opened.now }
     requires least { 1000 ≤ rate }
     requires most { rate ≤ 10 ^ 12 }
-    requires rate { HasRate (D.link_rate discipline.old) rate }
-    requires new { D.stands discipline.old [] }
+    requires rate { HasRate (D.view discipline.old).link_rate rate }
+    requires new { (D.view discipline.old).represents [] }
     requires fresh { words.old.drawn ≡ 0 }
-    requires sound { IsSound (setup_of (D.policy discipline.old) (C.placed classify.now) (C.dressed classify.now) names.now rate words.old.seed) }
+    requires sound { IsSound (setup_of (D.view discipline.old).policy (C.placed classify.now) (C.dressed classify.now) names.now rate words.old.seed) }
     requires opened { AreOpened outputs.old opened.now }
     requires no_records { outputs.old.records.items ≡ [] }
     requires no_rows { outputs.old.rows ≡ [] }
     requires none { HasCounted names.now [] [] outputs.old.counts.items }
     requires begun { K.told keeper.old [] }
-    ensures ended { IfOk result (λ end. IsAnswer (setup_of (D.policy discipline.old) (C.placed classify.now) (C.dressed classify.now) names.now rate words.old.seed)
-        (D.stands discipline.new) (K.told keeper.new) (F.view files.old) (F.view files.new) opened.now
+    ensures ended { IfOk result (λ end. IsAnswer (setup_of (D.view discipline.old).policy (C.placed classify.now)
+        (C.dressed classify.now) names.now rate words.old.seed)
+        (D.view discipline.new).represents (K.told keeper.new) (F.view files.old) (F.view files.new) opened.now
         (answer_of end.0 (record { totals = end.1; counts = outputs.new.counts }))) }
-    ensures broken { IfErr result (IsBrokenOff (setup_of (D.policy discipline.old) (C.placed classify.now) (C.dressed classify.now) names.now rate words.old.seed)
-        (D.stands discipline.new) (F.view files.old) (F.view files.new) opened.now) }
+    ensures broken { IfErr result (IsBrokenOff (setup_of (D.view discipline.old).policy (C.placed classify.now)
+        (C.dressed classify.now) names.now rate words.old.seed)
+        (D.view discipline.new).represents (F.view files.old) (F.view files.new) opened.now) }
     ensures before { K.before keeper.new ≡ K.before keeper.old }
     ensures others { OnlyPlayed opened.now.arrivals opened.now.departures opened.now.fates (F.view files.old) (F.view files.new) }
 {
@@ -363,11 +376,14 @@ fn play_records<D: Discipline, C: Classify, F: Files, K: Keeper>(
     files: &mut F,
 ) -> Result<Ending, PlayFault>
     requires reads { CanRead (F.view files.old) reader.old outputs.old }
-    requires under { IsUnderway (setup_of (D.policy discipline.old) (C.placed classify.now) (C.dressed classify.now) names.now progress.old.clock.rate words.old.seed)
-        (moment (shown D.policy D.stands D.lists D.limits D.link_rate discipline.old) (F.view files.old) outputs.old (K.told keeper.old) progress.old) [] words.old [] }
-    ensures ended { IfOk result (HasRun (setup_of (D.policy discipline.old) (C.placed classify.now) (C.dressed classify.now) names.now progress.old.clock.rate words.old.seed) (StartsOn (F.view files.old) reader.old)
-        (moment (shown D.policy D.stands D.lists D.limits D.link_rate discipline.new) (F.view files.new) outputs.new (K.told keeper.new) progress.new) reader.new words.new) }
-    ensures broken { OnErr result (HasBroken (setup_of (D.policy discipline.old) (C.placed classify.now) (C.dressed classify.now) names.now progress.old.clock.rate words.old.seed) (StartsOn (F.view files.old) reader.old)
+    requires under { IsUnderway (setup_of (D.view discipline.old).policy (C.placed classify.now)
+        (C.dressed classify.now) names.now progress.old.clock.rate words.old.seed)
+        (moment (D.view discipline.old) (F.view files.old) outputs.old (K.told keeper.old) progress.old) [] words.old [] }
+    ensures ended { IfOk result (HasRun (setup_of (D.view discipline.old).policy (C.placed classify.now)
+        (C.dressed classify.now) names.now progress.old.clock.rate words.old.seed) (StartsOn (F.view files.old) reader.old)
+        (moment (D.view discipline.new) (F.view files.new) outputs.new (K.told keeper.new) progress.new) reader.new words.new) }
+    ensures broken { OnErr result (HasBroken (setup_of (D.view discipline.old).policy (C.placed classify.now)
+        (C.dressed classify.now) names.now progress.old.clock.rate words.old.seed) (StartsOn (F.view files.old) reader.old)
         (F.view files.new) outputs.old) }
     ensures no_fault { IfOk result (λ ending. IsClean ending → SameCounts (F.view files.old) (F.view files.new)) }
     ensures read { IfOk result (λ ending. ending ≡ Ending.Cut CaptureFault.Read → ReadFault (F.view files.old) (F.view files.new) reader.old.file) }

@@ -1,12 +1,12 @@
 // The turns of a play: the sendings that are due before an arrival, and then its offer.
 ghost use Rattle.std.specs.Prelude.{◌≡◌, List, IfOk, OnErr};
 ghost use Rattle.altq_model.specs.Arrivals.{Captured};
-ghost use Rattle.altq_model.specs.History.{DrawnWords, Happened};
+ghost use Rattle.altq_model.specs.History.{DrawnWords, LabelledEvent};
 ghost use Rattle.play_core.specs.Turns.{arrives};
 ghost use Rattle.play_loop.specs.Outputs.{AddsOnly};
-ghost use Rattle.play_loop.specs.Reading.{IsWithin};
+ghost use Rattle.play_loop.specs.Reading.{ArrivalFits};
 ghost use Rattle.play_loop.specs.Setup.{Setup};
-ghost use Rattle.play_loop.specs.Underway.{IsHeld, IsUnderway, OffersBroken, OffersTo, SendsBroken, SendsTo, classed, classing, moment, shown};
+ghost use Rattle.play_loop.specs.Underway.{IsNextArrival, IsUnderway, OffersBroken, OffersTo, SendsBroken, SendsTo, classed, classing, moment};
 
 use crate::PlayFault;
 use crate::arriving::Arriving;
@@ -34,15 +34,15 @@ pub fn send_due<D: Discipline, C: Classify, F: Files, K: Keeper>(
     keeper: &mut K,
     files: &mut F,
 ) -> Result<Due, PlayFault>
-    requires under { (x : Setup) × (arrived : List Captured) × (w : DrawnWords) × (g : List Happened)
+    requires under { (x : Setup) × (arrived : List Captured) × (w : DrawnWords) × (g : List LabelledEvent)
         × IsUnderway (classed (classing (C.placed classify.now) (C.dressed classify.now) names.now) x)
-        (moment (shown D.policy D.stands D.lists D.limits D.link_rate discipline.old) (F.view files.old) outputs.old (K.told keeper.old) progress.old) arrived w g
+        (moment (D.view discipline.old) (F.view files.old) outputs.old (K.told keeper.old) progress.old) arrived w g
         × (arrival ≡ arrives arrived g) }
     ensures due { IfOk result (SendsTo (classing (C.placed classify.now) (C.dressed classify.now) names.now)
-        (moment (shown D.policy D.stands D.lists D.limits D.link_rate discipline.old) (F.view files.old) outputs.old (K.told keeper.old) progress.old)
-        (moment (shown D.policy D.stands D.lists D.limits D.link_rate discipline.new) (F.view files.new) outputs.new (K.told keeper.new) progress.new) arrival) }
+        (moment (D.view discipline.old) (F.view files.old) outputs.old (K.told keeper.old) progress.old)
+        (moment (D.view discipline.new) (F.view files.new) outputs.new (K.told keeper.new) progress.new) arrival) }
     ensures broken { OnErr result (SendsBroken (classing (C.placed classify.now) (C.dressed classify.now) names.now)
-        (moment (shown D.policy D.stands D.lists D.limits D.link_rate discipline.old) (F.view files.old) outputs.old (K.told keeper.old) progress.old)
+        (moment (D.view discipline.old) (F.view files.old) outputs.old (K.told keeper.old) progress.old)
         (F.view files.new) arrival) }
     ensures only { AddsOnly (F.view files.old) (F.view files.new) outputs.old outputs.new result }
     ensures before { K.before keeper.new ≡ K.before keeper.old }
@@ -74,16 +74,16 @@ pub fn play_packet<D: Discipline, C: Classify, F: Files, K: Keeper>(
     keeper: &mut K,
     files: &mut F,
 ) -> Result<Due, PlayFault>
-    requires under { (x : Setup) × (arrived : List Captured) × (g : List Happened)
+    requires under { (x : Setup) × (arrived : List Captured) × (g : List LabelledEvent)
         × IsUnderway (classed (classing (C.placed classify.now) (C.dressed classify.now) names.now) x)
-        (moment (shown D.policy D.stands D.lists D.limits D.link_rate discipline.old) (F.view files.old) outputs.old (K.told keeper.old) progress.old) arrived words.old g
-        × IsHeld (C.placed classify.now) arrived g arriving.now }
-    requires within { IsWithin arriving.now }
+        (moment (D.view discipline.old) (F.view files.old) outputs.old (K.told keeper.old) progress.old) arrived words.old g
+        × IsNextArrival (C.placed classify.now) arrived g arriving.now }
+    requires within { ArrivalFits arriving.now }
     ensures due { IfOk result (OffersTo (classing (C.placed classify.now) (C.dressed classify.now) names.now)
-        (moment (shown D.policy D.stands D.lists D.limits D.link_rate discipline.old) (F.view files.old) outputs.old (K.told keeper.old) progress.old)
-        (moment (shown D.policy D.stands D.lists D.limits D.link_rate discipline.new) (F.view files.new) outputs.new (K.told keeper.new) progress.new) words.old words.new arriving.now) }
+        (moment (D.view discipline.old) (F.view files.old) outputs.old (K.told keeper.old) progress.old)
+        (moment (D.view discipline.new) (F.view files.new) outputs.new (K.told keeper.new) progress.new) words.old words.new arriving.now) }
     ensures broken { OnErr result (OffersBroken (classing (C.placed classify.now) (C.dressed classify.now) names.now)
-        (moment (shown D.policy D.stands D.lists D.limits D.link_rate discipline.old) (F.view files.old) outputs.old (K.told keeper.old) progress.old)
+        (moment (D.view discipline.old) (F.view files.old) outputs.old (K.told keeper.old) progress.old)
         (F.view files.new) words.old arriving.now) }
     ensures only { AddsOnly (F.view files.old) (F.view files.new) outputs.old outputs.new result }
     ensures before { K.before keeper.new ≡ K.before keeper.old }

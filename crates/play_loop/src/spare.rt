@@ -17,7 +17,7 @@ pub struct Spare {
 }
 
 impl Spare {
-    // None. Takes no memory.
+    // None. Does not allocate.
     pub fn new(alloc: Global) -> Spare {
         Spare {
             room: Vec::new(alloc),

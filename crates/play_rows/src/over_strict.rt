@@ -81,8 +81,8 @@ fn two_names(alloc: Global) -> Result<Names, NoMemory>
 
 // Voice before data, each in a queue of 50.
 fn two_queues(alloc: Global) -> Result<Strict<Tail>, NoMemory>
-    ensures empty { IfOk result (λ s. ⟦<Strict<Tail> as Discipline>⟧.stands s []) }
-    ensures classes { IfOk result (λ s. (⟦<Strict<Tail> as Discipline>⟧.policy s).classes ≡ 1 ∷ 2 ∷ []) }
+    ensures empty { IfOk result (λ s. (⟦<Strict<Tail> as Discipline>⟧.view s).represents []) }
+    ensures classes { IfOk result (λ s. (⟦<Strict<Tail> as Discipline>⟧.view s).policy.classes ≡ 1 ∷ 2 ∷ []) }
 {
     let mut queues = Vec::new(alloc);
     queues.push(Tail { limit: 50 })?;

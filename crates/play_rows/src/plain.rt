@@ -11,9 +11,9 @@ use std::test::Fail;
 
 // What is due at a moment at which the link is free, and when it is free then: what is due is sent.
 fn turn<D: Discipline>(discipline: &mut D, clock: &mut LinkClock, now: u64) -> Option<(Pick, u64)>
-    requires rate { HasRate (D.link_rate discipline.old) clock.old.rate }
-    requires later { D.moment discipline.old ≤ now }
-    requires after { D.ended discipline.old ≤ clock.old.link.free }
+    requires rate { HasRate (D.view discipline.old).link_rate clock.old.rate }
+    requires later { (D.view discipline.old).moment ≤ now }
+    requires after { (D.view discipline.old).ended ≤ clock.old.link.free }
     ensures rate { clock.new.rate ≡ clock.old.rate }
 {
     if clock.free() > now || now >= 1 << 63 {

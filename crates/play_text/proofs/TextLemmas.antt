@@ -7,7 +7,7 @@ use Rattle.altq_model.specs.declared.Fate.TheVariants.{Dropped}
 use Rattle.altq_model.specs.declared.Verdict.{Verdict}
 use Rattle.altq_model.specs.declared.Verdict.TheVariants.{Keep, Mark, Drop}
 use Rattle.altq_model.specs.Arrivals.{Captured, bare_arrivals}
-use Rattle.altq_model.specs.History.{Arrival, Event, Offered, Sent, Happened, Decision, dropped_by, decided, journal}
+use Rattle.altq_model.specs.History.{Arrival, Event, Offered, Sent, LabelledEvent, Decision, dropped_by, decided, journal}
 use Rattle.play_laws.specs.Events.{IsOfArrival, AreOfArrivals}
 use Rattle.play_laws.proofs.DepartureLemmas.{arrival_stays}
 use Rattle.play_text.specs.Texts.{Naming, fate_text, fate_row, fate_rows, fates, fates_header}
@@ -43,7 +43,7 @@ event_stays names xs ys n (Sent s) x = row_stays names xs ys n x.packet (TheVari
 both : (as' bs cs ds : List ℕ) → as' ≡ cs → bs ≡ ds → as' ++ bs ≡ cs ++ ds
 both as' bs cs ds e f = cc
 
-pub rows_stay : (names : Naming) (xs ys : List Captured) (g : List Happened) → AreOfArrivals (bare_arrivals xs) g
+pub rows_stay : (names : Naming) (xs ys : List Captured) (g : List LabelledEvent) → AreOfArrivals (bare_arrivals xs) g
     → fate_rows names (xs ++ ys) (journal g) ≡ fate_rows names xs (journal g)
 rows_stay names xs ys [] f = refl
 rows_stay names xs ys (e ∷ g) f =

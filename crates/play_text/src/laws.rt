@@ -1,7 +1,7 @@
 // Laws of the texts of a play.
 ghost use Rattle.std.specs.Prelude.{◌≡◌, ◌++◌, ℕ, List};
 ghost use Rattle.altq_model.specs.Arrivals.{Captured, bare_arrivals};
-ghost use Rattle.altq_model.specs.History.{Decision, Happened, journal};
+ghost use Rattle.altq_model.specs.History.{Decision, LabelledEvent, journal};
 ghost use Rattle.play_laws.specs.Events.{AreOfArrivals};
 ghost use Rattle.play_text.specs.Texts.{Naming, fate_rows, fates};
 
@@ -12,6 +12,6 @@ pub fn texts_extend()
         → fates names arrived (xs ++ ys) ≡ fates names arrived xs ++ fate_rows names arrived ys }
     ensures rows { (names : Naming) (arrived : List Captured) (xs ys : List Decision)
         → fate_rows names arrived (xs ++ ys) ≡ fate_rows names arrived xs ++ fate_rows names arrived ys }
-    ensures stay { (names : Naming) (arrived more : List Captured) (g : List Happened) → AreOfArrivals (bare_arrivals arrived) g
+    ensures stay { (names : Naming) (arrived more : List Captured) (g : List LabelledEvent) → AreOfArrivals (bare_arrivals arrived) g
         → fate_rows names (arrived ++ more) (journal g) ≡ fate_rows names arrived (journal g) }
 {}

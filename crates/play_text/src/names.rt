@@ -7,18 +7,18 @@ use play_base::NoMemory;
 use std::alloc::Global;
 use std::marker::Model;
 
-// How many sums there are: four for each class.
-const SUMS: usize = 1024;
+// How many hashes there are: four for each class.
+const HASHES: usize = 1024;
 
-// A sum of a name, by which different names mostly differ.
-fn sum_of(name: &[u8]) -> usize
+// A hash of a name.
+fn hash_of(name: &[u8]) -> usize
     ensures { result < 1024 }
 {
-    let mut sum = 0;
+    let mut hash = 0;
     for byte in name {
-        sum = (sum * 31 + usize::from(*byte)) % SUMS;
+        hash = (hash * 31 + usize::from(*byte)) % HASHES;
     }
-    sum
+    hash
 }
 
 // A queue class and its name.
@@ -33,8 +33,8 @@ struct Named {
 #[derive(Drop)]
 pub struct Names {
     entries: Vec<Named>,
-    // By the sum of a name: where an entry with that sum was put.
-    likely: [u8; SUMS],
+    // By the hash of a name: where the entry with that hash was put last.
+    by_hash: [u8; HASHES],
 }
 
 impl Model for Names {
@@ -50,13 +50,13 @@ impl Model for Names {
 }
 
 impl Names {
-    /// No class. Takes no memory.
+    /// No class. Does not allocate.
     pub fn make(alloc: Global) -> Names
         ensures { result ≡ [] }
     {
         Names {
             entries: Vec::new(alloc),
-            likely: [0; SUMS],
+            by_hash: [0; HASHES],
         }
     }
 
@@ -73,14 +73,14 @@ impl Names {
     {
         let alloc = *self.entries.allocator();
         let at = self.entries.len() as u8;
-        let sum = sum_of(name.as_bytes());
+        let hash = hash_of(name.as_bytes());
         let name = String::from_str(alloc, name)?;
         self.entries.push(Named { class, name })?;
-        self.likely[sum] = at;
+        self.by_hash[hash] = at;
         Ok(())
     }
 
-    /// How many classes there are, at most 256. Takes no memory, in constant time.
+    /// How many classes there are, at most 256. Does not allocate, in constant time.
     pub fn len(&self) -> u32
         ensures count { result ≡ length self.now }
         ensures names { AreNames self.now }
@@ -88,7 +88,7 @@ impl Names {
         self.entries.len() as u32
     }
 
-    /// The place, from 0, at which a class stands; None exactly where it is not there. Takes no memory, in the time of a binary search.
+    /// The place, from 0, at which a class stands; None exactly where it is not there. Does not allocate, in the time of a binary search.
     pub fn place(&self, class: u32) -> Option<u32>
         ensures { result ≡ place_of self.now class }
     {
@@ -98,22 +98,22 @@ impl Names {
         }
     }
 
-    /// The class of a name; None exactly where no class has it. Takes no memory, and compares the name with at most 257 others, mostly
+    /// The class of a name; None exactly where no class has it. Does not allocate; compares the name with at most 257 others, mostly
     /// with one.
     pub fn class(&self, name: &[u8]) -> Option<u32>
         ensures { result ≡ class_named self.now name.now }
     {
-        match self.likely_class(name) {
+        match self.class_by_hash(name) {
             Some(class) => Some(class),
             None => self.class_by_each(name),
         }
     }
 
-    // The class of a name, if its entry is the one that was put last with its sum.
-    fn likely_class(&self, name: &[u8]) -> Option<u32>
+    // The class of a name, if its entry is the one that was put last with its hash.
+    fn class_by_hash(&self, name: &[u8]) -> Option<u32>
         ensures { IfSome result (λ class. class_named self.now name.now ≡ Some class) }
     {
-        let at = usize::from(self.likely[sum_of(name)]);
+        let at = usize::from(self.by_hash[hash_of(name)]);
         if at >= self.entries.len() {
             return None;
         }

@@ -106,7 +106,7 @@ pub(crate) fn writer_over(bytes: Vec<u8>) -> Writer<Vec<u8>>
 }
 
 impl Rows {
-    /// No row. Takes no memory.
+    /// No row. Does not allocate.
     pub fn new(alloc: Global) -> Rows
         ensures { result ≡ [] }
     {
@@ -126,7 +126,7 @@ impl Rows {
         }
     }
 
-    /// A bound of the text's length in bytes, which rises by at most 565 with each row, and which `settle` makes exact. Constant time.
+    /// A bound of the text's length in bytes, which rises by at most 565 with each row, and which `flush_pending` makes exact. Constant time.
     pub fn most(&self) -> usize
         ensures { length self.now ≤ result }
     {
@@ -135,7 +135,7 @@ impl Rows {
 
     /// Makes the bound of the length exact. Takes the memory and the time of the rows that were held back, at most 8,192 bytes; the only
     /// error is lack of memory. The rows stay.
-    pub fn settle(&mut self) -> Result<(), NoMemory>
+    pub fn flush_pending(&mut self) -> Result<(), NoMemory>
         ensures { self.new ≡ self.old }
     {
         match self.writer.flush() {
@@ -161,7 +161,7 @@ impl Rows {
         }
     }
 
-    /// Gives the memory of a text that was taken out to rows of which there is none. Takes no memory.
+    /// Gives the memory of a text that was taken out to rows of which there is none. Does not allocate.
     pub fn reuse(&mut self, text: Vec<u8>)
         requires { self.old ≡ [] }
         ensures { self.new ≡ [] }

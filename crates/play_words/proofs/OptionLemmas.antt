@@ -24,7 +24,7 @@ use Rattle.play_words.specs.declared.options.OptionsOf.{OptionsOf}
 use Rattle.play_words.specs.declared.options.OptionsOf.TheVariants.{Play, Check, Make, Verify, Chain, Condition}
 use Rattle.play_words.specs.Options.{app_by, options_refusal, chain_app, check_app, make_app, play_app, takes_options, required_option, verify_app, with_options, options_of, value_of, condition_app}
 use Rattle.line_text.specs.Numbers.{number}
-use Rattle.play_words.specs.Words.{IsMake, IsPlay, Named, Words, count_in, count_of, make_refusal, options_by, play_refusal, rows_read, rows_refusal}
+use Rattle.play_words.specs.Words.{IsMake, IsPlay, Named, Arguments, count_in, count_of, make_refusal, options_by, play_refusal, rows_read, rows_refusal}
 
 -- one more option
 pub added : (old new : Command) (a : Arg) (app : App) (name : Text) → AddsArg old a new → a.global ≡ false → app_of old ≡ app
@@ -112,7 +112,7 @@ text_or None t d is empty = empty ∙ ap (λ (x : Option Text). unwrap_or x []) 
 text_or (Some x) t d is empty = ap (λ (y : Option Text). unwrap_or y []) is
 
 -- the cause that clap's error gives is that of its reading, or want of memory
-pub told_why : (app : App) (words : Words) (kind : ErrorKind) (cause : Unread) → (kind ≢ OutOfMemory → takes_options app words ≡ false)
+pub told_why : (app : App) (words : Arguments) (kind : ErrorKind) (cause : Unread) → (kind ≢ OutOfMemory → takes_options app words ≡ false)
     → cause ≡ cause_of kind → Explains (options_refusal app words) cause
 told_why app words kind cause refused is = rw is (known (is_memory kind) refl)
   where
@@ -140,32 +140,32 @@ matches_refused kinds (Err e) h = λ other. go kinds (kind_of e) h other
     go (x ∷ xs) kind h other = ne_eqb _ _ (λ e. omega arith)
 
 -- the options of a command are those of the words
-pub play_rows : (words : Words) (rows : List Row) → IsPlay words → rows ≡ options_of play_app words → rows ≡ rows_read words
+pub play_rows : (words : Arguments) (rows : List Row) → IsPlay words → rows ≡ options_of play_app words → rows ≡ rows_read words
 play_rows words rows play is = is ∙ sym (ap (λ (n : Named). options_by n words) play)
 
-pub make_rows : (words : Words) (rows : List Row) → IsMake words → rows ≡ options_of make_app words → rows ≡ rows_read words
+pub make_rows : (words : Arguments) (rows : List Row) → IsMake words → rows ≡ options_of make_app words → rows ≡ rows_read words
 make_rows words rows make is = is ∙ sym (ap (λ (n : Named). options_by n words) make)
 
 -- what is refused of options that clap takes
-pub play_kind : (words : Words) (rows : List Row) (kind : Option ℕ) → IsPlay words → takes_options play_app words ≡ true → rows ≡ options_of play_app words
+pub play_kind : (words : Arguments) (rows : List Row) (kind : Option ℕ) → IsPlay words → takes_options play_app words ≡ true → rows ≡ options_of play_app words
     → rows_refusal rows ≡ kind → play_refusal words ≡ kind
 play_kind words rows kind play taken is refused =
     let P : List Row → Type 0 = λ r. rows_refusal r ≡ kind in
     let there : rows_refusal (rows_read words) ≡ kind = subst P (play_rows words rows play is) refused in
     rw taken there
 
-pub make_kind : (words : Words) (rows : List Row) (kind : Option ℕ) → IsMake words → takes_options make_app words ≡ true → rows ≡ options_of make_app words
+pub make_kind : (words : Arguments) (rows : List Row) (kind : Option ℕ) → IsMake words → takes_options make_app words ≡ true → rows ≡ options_of make_app words
     → is_none (count_of words) ≡ false → rows_refusal rows ≡ kind → make_refusal words ≡ kind
 make_kind words rows kind make taken is counted refused =
     let P : List Row → Type 0 = λ r. rows_refusal r ≡ kind in
     let there : rows_refusal (rows_read words) ≡ kind = subst P (make_rows words rows make is) refused in
     rw (taken, counted) there
 
-pub make_uncounted : (words : Words) → takes_options make_app words ≡ true → count_of words ≡ None → make_refusal words ≡ Some 4
+pub make_uncounted : (words : Arguments) → takes_options make_app words ≡ true → count_of words ≡ None → make_refusal words ≡ Some 4
 make_uncounted words taken none = rw (taken, none) refl
 
 -- the count that was read is that of the words
-pub count_read : (words : Words) (rows : List Row) (text : Text) (o : Option ℕ) → IsMake words → rows ≡ options_of make_app words
+pub count_read : (words : Arguments) (rows : List Row) (text : Text) (o : Option ℕ) → IsMake words → rows ≡ options_of make_app words
     → text ≡ value_of (codes "count") rows → o ≡ count_in (number 10 text) → o ≡ count_of words
 count_read words rows text o make is at read =
     let P : List Row → Type 0 = λ r. text ≡ value_of (codes "count") r in

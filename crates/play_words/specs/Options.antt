@@ -8,8 +8,8 @@ use Rattle.clap.specs.declared.builder.action.ArgAction.TheVariants.{Set}
 use Rattle.play_words.specs.declared.options.OptionsOf.{OptionsOf}
 use Rattle.play_words.specs.declared.options.OptionsOf.TheVariants.{Play, Check, Make, Verify, Chain, Condition}
 
-abbrev pub Words : Type 0
-Words = List (String Global)
+abbrev pub Arguments : Type 0
+Arguments = List (String Global)
 
 -- `--name VALUE`: it has to be given, with one value
 abbrev pub required_option : Text → Rule
@@ -53,19 +53,19 @@ app_by Chain = chain_app
 app_by Condition = condition_app
 
 -- the words as texts; clap takes the first as the program's name, and reads those behind it
-abbrev pub texts_of : Words → List Text
+abbrev pub texts_of : Arguments → List Text
 texts_of words = map string_bytes words
 
 -- clap's reading refuses nothing of the words
-abbrev pub takes_options : App → Words → Bool
+abbrev pub takes_options : App → Arguments → Bool
 takes_options app words = is_empty (fault_of app (texts_of words))
 
 -- the kind of options that are refused
-abbrev pub options_refusal : App → Words → Option ℕ
+abbrev pub options_refusal : App → Arguments → Option ℕ
 options_refusal app words = if takes_options app words then None else Some 2
 
 -- what clap reads of the words
-abbrev pub options_of : App → Words → List Row
+abbrev pub options_of : App → Arguments → List Row
 options_of app words = matches_of app (texts_of words)
 
 -- the value of an option, or no text where it was not read

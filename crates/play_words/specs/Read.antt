@@ -10,7 +10,7 @@ use Rattle.play_words.specs.declared.words.MakeWords.{MakeWords}
 use Rattle.play_words.specs.declared.words.PlayWords.{PlayWords}
 use Rattle.play_words.specs.declared.words.VerifyWords.{VerifyWords}
 use Rattle.play_words.specs.Options.{value_of}
-use Rattle.play_words.specs.Words.{Words, IsPlay, IsChain, IsCheck, IsMake, IsShares, IsVerify, AreAllDistinct, AreDistinct, AreDistinctInputs, rows_read, seed_in, count_of, config_name, interface_name, AreDistinctMarks, IsCondition}
+use Rattle.play_words.specs.Words.{Arguments, IsPlay, IsChain, IsCheck, IsMake, IsShares, IsVerify, AreAllDistinct, AreDistinct, AreDistinctInputs, rows_read, seed_in, count_of, config_name, interface_name, AreDistinctMarks, IsCondition}
 
 -- the names and the seed are those of the options
 pub record ReadsNames (rows : List Row) (w : PlayWords) : Type 0 where
@@ -27,20 +27,20 @@ pub record ReadsRows (rows : List Row) (w : PlayWords) : Type 0 where
   pub names : ReadsNames rows w
   pub distinct : AreDistinct w.config.now w.arrivals.now w.departures.now w.fates.now w.stats.now
 
-pub record ReadsPlay (words : Words) (w : PlayWords) : Type 0 where
+pub record ReadsPlay (words : Arguments) (w : PlayWords) : Type 0 where
   pub command : IsPlay words
   pub read : ReadsRows (rows_read words) w
 
-pub record ReadsShares (words : Words) (w : PlayWords) : Type 0 where
+pub record ReadsShares (words : Arguments) (w : PlayWords) : Type 0 where
   pub command : IsShares words
   pub read : ReadsRows (rows_read words) w
 
-pub record ReadsMake (words : Words) (w : MakeWords) : Type 0 where
+pub record ReadsMake (words : Arguments) (w : MakeWords) : Type 0 where
   pub command : IsMake words
   pub read : ReadsRows (rows_read words) w.play
   pub count : count_of words ≡ Some w.count
 
-pub record ReadsCheck (words : Words) (w : CheckWords) : Type 0 where
+pub record ReadsCheck (words : Arguments) (w : CheckWords) : Type 0 where
   pub command : IsCheck words
   pub config : w.config.now ≡ config_name words
   pub interface : w.interface.now ≡ interface_name words
@@ -54,7 +54,7 @@ pub record ReadsInputs (rows : List Row) (w : VerifyWords) : Type 0 where
   pub fates : w.fates.now ≡ value_of (codes "fates") rows
   pub distinct : AreDistinctInputs w.config.now w.arrivals.now w.departures.now w.fates.now
 
-pub record ReadsVerify (words : Words) (w : VerifyWords) : Type 0 where
+pub record ReadsVerify (words : Arguments) (w : VerifyWords) : Type 0 where
   pub command : IsVerify words
   pub read : ReadsInputs (rows_read words) w
 
@@ -74,7 +74,7 @@ pub record ReadsLinks (rows : List Row) (w : ChainWords) : Type 0 where
   pub path : w.path.now ≡ value_of (codes "path") rows
   pub distinct : AreAllDistinct (files_of w)
 
-pub record ReadsChain (words : Words) (w : ChainWords) : Type 0 where
+pub record ReadsChain (words : Arguments) (w : ChainWords) : Type 0 where
   pub command : IsChain words
   pub read : ReadsLinks (rows_read words) w
 
@@ -86,11 +86,11 @@ pub record ReadsMarking (rows : List Row) (w : ConditionWords) : Type 0 where
   pub marked : w.marked.now ≡ value_of (codes "marked") rows
   pub distinct : AreDistinctMarks w.config.now w.arrivals.now w.marked.now
 
-pub record ReadsCondition (words : Words) (w : ConditionWords) : Type 0 where
+pub record ReadsCondition (words : Arguments) (w : ConditionWords) : Type 0 where
   pub command : IsCondition words
   pub read : ReadsMarking (rows_read words) w
 
-abbrev pub Reads : Words → Command → Type 0
+abbrev pub Reads : Arguments → Command → Type 0
 Reads words (Play w) = ReadsPlay words w
 Reads words (Check w) = ReadsCheck words w
 Reads words (Make w) = ReadsMake words w

@@ -8,13 +8,13 @@ use Rattle.std.specs.declared.option.Option.{Option}
 use Rattle.clap.specs.Words.{Row}
 use Rattle.line_text.specs.Numbers.{number}
 use Rattle.play_words.specs.Options.{chain_app, check_app, make_app, options_of, options_refusal, play_app, takes_options, value_of, verify_app, condition_app}
-pub use Rattle.play_words.specs.Options.{Words}
+pub use Rattle.play_words.specs.Options.{Arguments}
 
 -- a word, or no text where there are fewer
-abbrev pub word_at : Words → ℕ → List ℕ
+abbrev pub word_at : Arguments → ℕ → List ℕ
 word_at words i = option_map_or string_bytes (slice_get words i) []
 
-abbrev pub is_word : Words → ℕ → List ℕ → Bool
+abbrev pub is_word : Arguments → ℕ → List ℕ → Bool
 is_word words i text = bytes_eq (word_at words i) text
 
 -- the command that the first word names
@@ -28,7 +28,7 @@ pub data Named : Type 0 where
   Condition : Named
   NoCommand : Named
 
-abbrev pub named : Words → Named
+abbrev pub named : Arguments → Named
 named words =
     if is_word words 0 (codes "play") then Play
     else if is_word words 0 (codes "check") then Check
@@ -39,29 +39,29 @@ named words =
     else if is_word words 0 (codes "condition") then Condition
     else NoCommand
 
-abbrev pub IsPlay : Words → Type 0
+abbrev pub IsPlay : Arguments → Type 0
 IsPlay words = named words ≡ Play
 
-abbrev pub IsCheck : Words → Type 0
+abbrev pub IsCheck : Arguments → Type 0
 IsCheck words = named words ≡ Check
 
-abbrev pub IsMake : Words → Type 0
+abbrev pub IsMake : Arguments → Type 0
 IsMake words = named words ≡ Make
 
-abbrev pub IsVerify : Words → Type 0
+abbrev pub IsVerify : Arguments → Type 0
 IsVerify words = named words ≡ Verify
 
-abbrev pub IsShares : Words → Type 0
+abbrev pub IsShares : Arguments → Type 0
 IsShares words = named words ≡ Shares
 
-abbrev pub IsChain : Words → Type 0
+abbrev pub IsChain : Arguments → Type 0
 IsChain words = named words ≡ Chain
 
-abbrev pub IsCondition : Words → Type 0
+abbrev pub IsCondition : Arguments → Type 0
 IsCondition words = named words ≡ Condition
 
 -- the options that are read of the words behind the command; `shares` takes those of `play`
-abbrev pub options_by : Named → Words → List Row
+abbrev pub options_by : Named → Arguments → List Row
 options_by Play words = options_of play_app words
 options_by Check words = options_of check_app words
 options_by Make words = options_of make_app words
@@ -71,42 +71,42 @@ options_by Chain words = options_of chain_app words
 options_by Condition words = options_of condition_app words
 options_by NoCommand words = []
 
-abbrev pub rows_read : Words → List Row
+abbrev pub rows_read : Arguments → List Row
 rows_read words = options_by (named words) words
 
 -- the options are read as those of `play`
-abbrev pub TakesPlayed : Words → Type 0
+abbrev pub TakesPlayed : Arguments → Type 0
 TakesPlayed words = rows_read words ≡ options_of play_app words
 
-abbrev pub option_of : List ℕ → Words → List ℕ
+abbrev pub option_of : List ℕ → Arguments → List ℕ
 option_of name words = value_of name (rows_read words)
 
-abbrev pub config_name : Words → List ℕ
+abbrev pub config_name : Arguments → List ℕ
 config_name = option_of (codes "config")
 
-abbrev pub interface_name : Words → List ℕ
+abbrev pub interface_name : Arguments → List ℕ
 interface_name = option_of (codes "interface")
 
-abbrev pub arrivals_name : Words → List ℕ
+abbrev pub arrivals_name : Arguments → List ℕ
 arrivals_name = option_of (codes "arrivals")
 
-abbrev pub departures_name : Words → List ℕ
+abbrev pub departures_name : Arguments → List ℕ
 departures_name = option_of (codes "departures")
 
-abbrev pub fates_name : Words → List ℕ
+abbrev pub fates_name : Arguments → List ℕ
 fates_name = option_of (codes "fates")
 
-abbrev pub stats_name : Words → List ℕ
+abbrev pub stats_name : Arguments → List ℕ
 stats_name = option_of (codes "stats")
 
-abbrev pub marked_name : Words → List ℕ
+abbrev pub marked_name : Arguments → List ℕ
 marked_name = option_of (codes "marked")
 
 -- the seed: one or more decimal digits and nothing else, below 2^64
 abbrev pub seed_in : List Row → Option ℕ
 seed_in rows = number 10 (value_of (codes "seed") rows)
 
-abbrev pub seed_of : Words → Option ℕ
+abbrev pub seed_of : Arguments → Option ℕ
 seed_of words = seed_in (rows_read words)
 
 -- the count of packets to make: such digits, 1 to 1,000,000
@@ -117,7 +117,7 @@ abbrev pub count_in : Option ℕ → Option ℕ
 count_in None = None
 count_in (Some n) = if nat_le 1 n && nat_le n most_packets then Some n else None
 
-abbrev pub count_of : Words → Option ℕ
+abbrev pub count_of : Arguments → Option ℕ
 count_of words = count_in (number 10 (option_of (codes "count") words))
 
 abbrev pub differ : List ℕ → List ℕ → Bool
@@ -146,16 +146,16 @@ rows_refusal rows =
 
 -- the kind of the first test that the words fail: no such command (1), options (2), a bad number (4), two names equal (3); None where
 -- they are accepted
-abbrev pub play_refusal : Words → Option ℕ
+abbrev pub play_refusal : Arguments → Option ℕ
 play_refusal words = if not (takes_options play_app words) then Some 2 else rows_refusal (rows_read words)
 
-abbrev pub make_refusal : Words → Option ℕ
+abbrev pub make_refusal : Arguments → Option ℕ
 make_refusal words =
     if not (takes_options make_app words) then Some 2
     else if is_none (count_of words) then Some 4
     else rows_refusal (rows_read words)
 
-abbrev pub check_refusal : Words → Option ℕ
+abbrev pub check_refusal : Arguments → Option ℕ
 check_refusal = options_refusal check_app
 
 -- no two names of files that are checked are equal as texts
@@ -169,7 +169,7 @@ inputs_refusal rows =
     (value_of (codes "fates") rows)) then Some 3
     else None
 
-abbrev pub verify_refusal : Words → Option ℕ
+abbrev pub verify_refusal : Arguments → Option ℕ
 verify_refusal words = if not (takes_options verify_app words) then Some 2 else inputs_refusal (rows_read words)
 
 -- no two of these texts are equal
@@ -189,7 +189,7 @@ links_refusal rows =
     else if not (are_all_distinct (map (λ name. value_of name rows) chain_files)) then Some 3
     else None
 
-abbrev pub chain_refusal : Words → Option ℕ
+abbrev pub chain_refusal : Arguments → Option ℕ
 chain_refusal words = if not (takes_options chain_app words) then Some 2 else links_refusal (rows_read words)
 
 -- no two names of files of a marking are equal as texts
@@ -201,10 +201,10 @@ marking_refusal rows =
     if not (are_distinct_marks (value_of (codes "config") rows) (value_of (codes "arrivals") rows) (value_of (codes "marked") rows)) then Some 3
     else None
 
-abbrev pub condition_refusal : Words → Option ℕ
+abbrev pub condition_refusal : Arguments → Option ℕ
 condition_refusal words = if not (takes_options condition_app words) then Some 2 else marking_refusal (rows_read words)
 
-abbrev pub refusal_by : Named → Words → Option ℕ
+abbrev pub refusal_by : Named → Arguments → Option ℕ
 refusal_by Play words = play_refusal words
 refusal_by Check words = check_refusal words
 refusal_by Make words = make_refusal words
@@ -214,7 +214,7 @@ refusal_by Chain words = chain_refusal words
 refusal_by Condition words = condition_refusal words
 refusal_by NoCommand words = Some 1
 
-abbrev pub refusal : Words → Option ℕ
+abbrev pub refusal : Arguments → Option ℕ
 refusal words = refusal_by (named words) words
 
 -- the same in facts

@@ -12,7 +12,7 @@ ghost use Rattle.play_words.specs.declared.words.Unread.TheVariants.{NoMemory};
 use crate::options::{OptionsOf, options_matched, value};
 use clap::ArgMatches;
 use clap::error::ErrorKind;
-use line_text::{Word, whole};
+use line_text::{Token, whole};
 use std::alloc::{AllocError, Global};
 
 /// Why the words are refused, in the order of the tests.
@@ -233,7 +233,7 @@ fn decimal(text: &str) -> Option<u64>
     if parts.len() >= 2 && parts[1] == b'x' {
         return None;
     }
-    whole(&Word { index: 1, parts })
+    whole(&Token { index: 1, parts })
 }
 
 /// The count of packets that a text gives: decimal digits, 1 to 1,000,000. `None` exactly where it is anything else.

@@ -44,7 +44,7 @@ red_says step limit q now waiting prec w =
     answer_of (ruling_at step limit (idle_of q) (average_of step q) (count_of step limit q) now waiting w)
 
 -- these are the average, the count and the beginning of the idle time after a history
-pub record StandsFor (step limit a : ℕ) (c : ℤ) (i : ℕ) (q : List QueueEvent) : Type 0 where
+pub record Represents (step limit a : ℕ) (c : ℤ) (i : ℕ) (q : List QueueEvent) : Type 0 where
   pub average : a ≡ average_of step q
   pub count : c ≡ count_of step limit q
   pub idle : i ≡ idle_of q

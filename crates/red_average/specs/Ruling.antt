@@ -19,25 +19,25 @@ abbrev pub kept : (count : ℤ) → (took : ℕ) → Ruled
 kept count took = record { ruling = record { verdict = Keep; count = count }; took = took }
 
 -- the count after one packet more: 0 after -1; it stays at 2^62
-abbrev pub risen : ℤ → ℕ
-risen (pos c) = min (c + 1) (2 ^ 62)
-risen (negsuc c) = 0
+abbrev pub next_count : ℤ → ℕ
+next_count (pos c) = min (c + 1) (2 ^ 62)
+next_count (negsuc c) = 0
 
 -- the greatest chance of an early drop is one in ten
 abbrev pub spacing : (width : ℕ) → ℕ
 spacing width = 10 * width
 
--- a word drops the packet where word / 2^32 is below over / room
-abbrev pub by_word : (room over word count : ℕ) → Ruled
-by_word room over word count = if nat_lt (word * room) (2 ^ 32 * over) then dropped Early 1 else kept (pos count) 1
+-- a word drops the packet where word / 2^32 is below over / spacing_left
+abbrev pub by_word : (spacing_left over word count : ℕ) → Ruled
+by_word spacing_left over word count = if nat_lt (word * spacing_left) (2 ^ 32 * over) then dropped Early 1 else kept (pos count) 1
 
 -- without room it is dropped, and no word is drawn
-abbrev pub by_room : (room over word count : ℕ) → Ruled
-by_room room over word count = if room == 0 then dropped Early 0 else by_word room over word count
+abbrev pub by_spacing : (spacing_left over word count : ℕ) → Ruled
+by_spacing spacing_left over word count = if spacing_left == 0 then dropped Early 0 else by_word spacing_left over word count
 
 -- an average between the thresholds
 abbrev pub between : Thresholds → (average : ℕ) → (count : ℤ) → (word : ℕ) → Ruled
-between t a c word = by_room (spacing (t.high - t.low) - risen c * (a - t.low)) (a - t.low) word (risen c)
+between t a c word = by_spacing (spacing (t.high - t.low) - next_count c * (a - t.low)) (a - t.low) word (next_count c)
 
 -- the test for a full queue comes first, then those of the average
 abbrev pub ruled : Thresholds → (full : Bool) → (average : ℕ) → (count : ℤ) → (word : ℕ) → Ruled

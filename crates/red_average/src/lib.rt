@@ -1,5 +1,5 @@
 //! Random early detection: a queue that drops by a moving average of its waiting packets, before it is full. It is RED of
-//! Floyd and Jacobson 1993 in a fixed point of 21 bits; docs/QUEUE-RULES.md has the rule and where each number comes from. What
+//! Floyd and Jacobson 1993 in a fixed point of 21 bits; docs/reference/QUEUE-RULES.md has the rule and where each number comes from. What
 //! other rules with averages need stands here too: an average's step, and what follows from it.
 #![tactic(auto)]
 

@@ -5,7 +5,7 @@ ghost use Rattle.leaf_queue.specs.Words.{word, Drew};
 ghost use Rattle.red_average.specs.Average.{idle_steps, moved};
 ghost use Rattle.red_average.specs.Ruling.{ruled, KeepsCount};
 ghost use Rattle.red_average.specs.Exact.{IsNear};
-ghost use Rattle.red_average.specs.Red.{thresholds, StandsFor};
+ghost use Rattle.red_average.specs.Red.{thresholds, Represents};
 
 use crate::average::{idle_step, moved};
 use crate::ruling::{Thresholds, ruled};
@@ -36,7 +36,7 @@ pub struct Red {
 
 impl Red {
     /// The rule of a queue that holds at most `limit` packets, 1 to 10,000, on a link of `rate` bits per second, 1,000 to 10^12.
-    /// Nothing was offered to it. Takes no memory; constant time.
+    /// Nothing was offered to it. Does not allocate; constant time.
     pub fn new(limit: u32, rate: u64) -> Red
         requires { 1000 ≤ rate }
         ensures average { result.average ≡ 0 }
@@ -44,7 +44,7 @@ impl Red {
         ensures idle { result.idle ≡ 0 }
         ensures step { result.step ≡ time_of 1000 rate }
         ensures limit { result.limit ≡ limit }
-        ensures history { StandsFor result.step result.limit result.average result.count result.idle [] }
+        ensures history { Represents result.step result.limit result.average result.count result.idle [] }
     {
         Red {
             average: 0,
@@ -58,7 +58,7 @@ impl Red {
     /// The verdict on a packet that comes at `now`, in nanoseconds, where `q` wait. The average moves first, whatever the verdict
     /// is. The packet is dropped as `Full` exactly where `q` is the limit, else kept below the lower threshold, else dropped as
     /// `Forced` from the upper one on, and between them dropped as `Early` by the count and a random word, which is drawn only
-    /// there. Takes no memory; its time does not grow with the idle time, as `moved` says.
+    /// there. Does not allocate; its time does not grow with the idle time, as `moved` says.
     pub fn arrive(&mut self, q: u32, now: u64, words: &mut Words) -> Verdict
         requires { q ≤ self.old.limit }
         ensures average { self.new.average ≡ moved self.old.step self.old.idle now q self.old.average }
@@ -91,11 +91,11 @@ impl Red {
 }
 
 impl QueueRule for Red {
-    ghost use Rattle.red_average.specs.Red.{red_says, StandsFor};
+    ghost use Rattle.red_average.specs.Red.{red_says, Represents};
 
     ghost most = { λ r. r.limit };
 
-    ghost stands = { λ r q. StandsFor r.step r.limit r.average r.count r.idle q };
+    ghost stands = { λ r q. Represents r.step r.limit r.average r.count r.idle q };
 
     ghost says = { λ r. red_says r.step r.limit };
 

@@ -3,7 +3,7 @@ ghost use Rattle.std.specs.Prelude.{◌≡◌, ◌≤◌, ◌<◌, ◌-◌, ◌+
 ghost use Rattle.leaf_queue.specs.Words.{word, Drew};
 ghost use Rattle.red_average.specs.Ruling.{ruled, between, KeepsCount};
 
-use crate::share::{falls, risen, room};
+use crate::share::{drops_by_chance, next_count, spacing_left};
 use leaf_queue::{Reason, Verdict, Words};
 
 /// The averages from which on packets are dropped, in packets times 2^21: from `low` on some are, from `high` on all.
@@ -46,13 +46,13 @@ fn between(thresholds: Thresholds, average: u64, count: i64, words: &mut Words) 
     ensures most { result.count ≤ℤ pos (2 ^ 62) }
     ensures law { KeepsCount thresholds average count result }
 {
-    let count = risen(count);
+    let count = next_count(count);
     let over = average - thresholds.low;
-    let room = room(thresholds.high - thresholds.low, count, over);
-    if room == 0 {
+    let spacing_left = spacing_left(thresholds.high - thresholds.low, count, over);
+    if spacing_left == 0 {
         return dropped(Reason::Early);
     }
-    if falls(words.next(), room, over) {
+    if drops_by_chance(words.next(), spacing_left, over) {
         return dropped(Reason::Early);
     }
     Ruling {

@@ -9,7 +9,7 @@ use Rattle.altq_model.specs.History.{Answer, DrawnWords}
 use Rattle.leaf_queue.specs.declared.rule.Waiting.{Waiting}
 use Rattle.leaf_queue.specs.Queue.{QueueEvent, Enqueued}
 use Rattle.rio_precedence.specs.declared.rio.Rio.{Rio}
-use Rattle.rio_precedence.specs.Rio.{StandsFor, average_after, average_of, count_of, idle_of, ruling_at}
+use Rattle.rio_precedence.specs.Rio.{Represents, average_after, average_of, count_of, idle_of, ruling_at}
 
 -- a fact of each number of a list, after one of them was replaced
 each_by : (P : ℤ → Type 0) (xs : List ℤ) (p i : ℕ) (z : ℤ) → (i ≡ p) ⊎ (i ≢ p) → ((k : ℕ) → k < length xs → P (slice_index_or xs k (pos 0)))
@@ -36,9 +36,9 @@ count_by xs p j z old false e there was =
 
 -- RIO's numbers after an offer: its averages moved, and the count of the packet's precedence as the ruling leaves it
 offered : (r : Rio) (moved : List ℕ) (q : List QueueEvent) (now : ℕ) (waiting : Waiting) (prec : ℕ) (w : DrawnWords) (v : Answer)
-    → StandsFor r.step r.limit r.average r.count r.idle q → prec ≤ 2 → length r.count ≡ 3
+    → Represents r.step r.limit r.average r.count r.idle q → prec ≤ 2 → length r.count ≡ 3
     → ((j : ℕ) → j ≤ 2 → slice_index moved j ≡ average_after r.step j prec now waiting (slice_index r.idle j) (slice_index r.average j))
-    → StandsFor r.step r.limit moved
+    → Represents r.step r.limit moved
     (slice_set r.count prec (ruling_at r.limit prec (slice_index moved prec) (slice_index_or r.count prec (pos 0)) waiting w).ruling.count) r.idle
     (Enqueued now waiting prec w v ∷ q)
 offered r moved q now waiting prec w v s small three moves =
@@ -61,17 +61,17 @@ offered r moved q now waiting prec w v s small three moves =
 
 -- RIO after an offer stands for the history with that offer
 pub stands_after : (old new : Rio) (q : List QueueEvent) (now : ℕ) (waiting : Waiting) (prec : ℕ) (w : DrawnWords) (v : Answer)
-    → StandsFor old.step old.limit old.average old.count old.idle q → prec ≤ 2 → length old.count ≡ 3 → new.step ≡ old.step → new.limit ≡ old.limit
+    → Represents old.step old.limit old.average old.count old.idle q → prec ≤ 2 → length old.count ≡ 3 → new.step ≡ old.step → new.limit ≡ old.limit
     → ((j : ℕ) → j ≤ 2 → slice_index new.average j ≡ average_after old.step j prec now waiting (slice_index old.idle j) (slice_index old.average j))
     → new.count ≡ slice_set old.count prec (ruling_at old.limit prec (slice_index new.average prec) (slice_index_or old.count prec (pos 0)) waiting w).ruling.count
-    → new.idle ≡ old.idle → StandsFor new.step new.limit new.average new.count new.idle (Enqueued now waiting prec w v ∷ q)
+    → new.idle ≡ old.idle → Represents new.step new.limit new.average new.count new.idle (Enqueued now waiting prec w v ∷ q)
 stands_after old new q now waiting prec w v s small three same_step same_limit moves counts idles =
     let q2 : List QueueEvent = Enqueued now waiting prec w v ∷ q in
     let ruled : List ℤ = slice_set old.count prec (ruling_at old.limit prec (slice_index new.average prec) (slice_index_or old.count prec (pos 0)) waiting w).ruling.count in
-    let P : ℕ → Type 0 = λ x. StandsFor x new.limit new.average new.count new.idle q2 in
-    let Q : ℕ → Type 0 = λ x. StandsFor old.step x new.average new.count new.idle q2 in
-    let R : List ℤ → Type 0 = λ x. StandsFor old.step old.limit new.average x new.idle q2 in
-    let S : List ℕ → Type 0 = λ x. StandsFor old.step old.limit new.average ruled x q2 in
+    let P : ℕ → Type 0 = λ x. Represents x new.limit new.average new.count new.idle q2 in
+    let Q : ℕ → Type 0 = λ x. Represents old.step x new.average new.count new.idle q2 in
+    let R : List ℤ → Type 0 = λ x. Represents old.step old.limit new.average x new.idle q2 in
+    let S : List ℕ → Type 0 = λ x. Represents old.step old.limit new.average ruled x q2 in
     subst P (sym same_step) (subst Q (sym same_limit) (subst R (sym counts) (subst S (sym idles)
     (offered old new.average q now waiting prec w v s small three moves))))
 

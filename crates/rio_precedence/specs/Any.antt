@@ -37,9 +37,9 @@ most_of (Rio r) = r.limit
 
 abbrev pub stands_of : AnyQueue → List QueueEvent → Type 0
 stands_of (Tail t) q = Unit {0}
-stands_of (Red r) q = red.StandsFor r.step r.limit r.average r.count r.idle q
-stands_of (Ecn r) q = red.StandsFor r.step r.limit r.average r.count r.idle q
-stands_of (Rio r) q = rio.StandsFor r.step r.limit r.average r.count r.idle q
+stands_of (Red r) q = red.Represents r.step r.limit r.average r.count r.idle q
+stands_of (Ecn r) q = red.Represents r.step r.limit r.average r.count r.idle q
+stands_of (Rio r) q = rio.Represents r.step r.limit r.average r.count r.idle q
 
 abbrev pub says_of : AnyQueue → Saying
 says_of (Tail t) = tail_says t.limit

@@ -1,4 +1,4 @@
--- What a precedence has of its own. The thresholds are this project's: docs/QUEUE-RULES.md says where they come from.
+-- What a precedence has of its own. The thresholds are this project's: docs/reference/QUEUE-RULES.md says where they come from.
 use Rattle.std.specs.Prelude.{ℕ, ◌*◌, ◌^◌, ◌==◌, if◌then◌else◌}
 use Rattle.leaf_queue.specs.declared.rule.Waiting.{Waiting}
 use Rattle.red_average.specs.declared.ruling.Thresholds.{Thresholds}

@@ -49,7 +49,7 @@ rio_says step limit q now waiting prec w =
     (count_of step limit prec q) waiting w)
 
 -- these are the averages, the counts and the beginnings of the idle times after a history
-pub record StandsFor (step limit : ℕ) (averages : List ℕ) (counts : List ℤ) (idles : List ℕ) (q : List QueueEvent) : Type 0 where
+pub record Represents (step limit : ℕ) (averages : List ℕ) (counts : List ℤ) (idles : List ℕ) (q : List QueueEvent) : Type 0 where
   pub average : (j : ℕ) → j ≤ 2 → slice_index averages j ≡ average_of step j q
   pub count : (j : ℕ) → j ≤ 2 → slice_index_or counts j (pos 0) ≡ count_of step limit j q
   pub idle : (j : ℕ) → j ≤ 2 → slice_index idles j ≡ idle_of j q

@@ -6,7 +6,7 @@ use crate::Rio;
 use leaf_queue::{QueueRule, Reason, Tail, Verdict, Waiting, Words};
 use red_average::Red;
 
-/// The rule that a class asks for: to drop at a limit alone, RED, RED that marks, or RIO. Each call takes no memory and does what
+/// The rule that a class asks for: to drop at a limit alone, RED, RED that marks, or RIO. Each call does not allocate and does what
 /// the rule's own does. `Ecn` does what RED does, but answers `Mark` in place of an early drop to a packet of precedence 1, which
 /// says here that its transport is capable of explicit congestion notification (RFC 3168); it draws the same random words as RED,
 /// and its count restarts as after a drop.

@@ -4,7 +4,7 @@ ghost use Rattle.play_base.specs.Units.{time_of};
 ghost use Rattle.leaf_queue.specs.Words.{word, Drew};
 ghost use Rattle.red_average.specs.Ruling.{ruled};
 ghost use Rattle.rio_precedence.specs.Precedence.{thresholds_of};
-ghost use Rattle.rio_precedence.specs.Rio.{average_after, idle_after, StandsFor};
+ghost use Rattle.rio_precedence.specs.Rio.{average_after, idle_after, Represents};
 
 use crate::precedence::{seen, thresholds_of};
 use leaf_queue::{QueueRule, Reason, Verdict, Waiting, Words};
@@ -30,7 +30,7 @@ pub struct Rio {
 
 impl Rio {
     /// The rule of a queue that holds at most `limit` packets, 1 to 10,000, on a link of `rate` bits per second, 1,000 to 10^12.
-    /// Nothing was offered to it. Takes no memory; constant time.
+    /// Nothing was offered to it. Does not allocate; constant time.
     pub fn new(limit: u32, rate: u64) -> Rio
         requires { 1000 ≤ rate }
         ensures average { result.average ≡ 0 ∷ 0 ∷ 0 ∷ [] }
@@ -38,7 +38,7 @@ impl Rio {
         ensures idle { result.idle ≡ 0 ∷ 0 ∷ 0 ∷ [] }
         ensures step { result.step ≡ time_of 1000 rate }
         ensures limit { result.limit ≡ limit }
-        ensures history { StandsFor result.step result.limit result.average result.count result.idle [] }
+        ensures history { Represents result.step result.limit result.average result.count result.idle [] }
     {
         Rio {
             average: [0; 3],
@@ -127,11 +127,11 @@ impl Rio {
 }
 
 impl QueueRule for Rio {
-    ghost use Rattle.rio_precedence.specs.Rio.{rio_says, StandsFor};
+    ghost use Rattle.rio_precedence.specs.Rio.{rio_says, Represents};
 
     ghost most = { λ r. r.limit };
 
-    ghost stands = { λ r q. StandsFor r.step r.limit r.average r.count r.idle q };
+    ghost stands = { λ r q. Represents r.step r.limit r.average r.count r.idle q };
 
     ghost says = { λ r. rio_says r.step r.limit };
 

@@ -7,7 +7,7 @@ use Rattle.service_curve.specs.Curve.{amount, straight}
 use Rattle.service_curve.specs.Moment.{IsFirst, HasCome}
 use Rattle.service_curve.proofs.Firsts.{first_of}
 use Rattle.runtime_curve.specs.declared.Opening.{Opening}
-use Rattle.runtime_curve.specs.declared.held.Held.{Held}
+use Rattle.runtime_curve.specs.declared.held.HeldOpenings.{HeldOpenings}
 use Rattle.runtime_curve.specs.Opening.{line, Reaches, least_over, IsAtLeast, eligible_curve, IsFrom}
 use Rattle.runtime_curve.specs.Deadline.{deadline, reaches, from_last, soonest}
 use Rattle.runtime_curve.specs.Held.{Lower, LowerThanAll, AreUpTo, StandFor}
@@ -57,7 +57,7 @@ same_truth false true f g = g refl
 same_truth false false f g = refl
 
 -- at a moment that no opening is later than, two openings that stand for all reach what all reach
-both_for_all : (s : Curve) (h : Held) (os : List Opening) (t x : ℕ) → StandFor s h os → h.last.at ≤ t
+both_for_all : (s : Curve) (h : HeldOpenings) (os : List Opening) (t x : ℕ) → StandFor s h os → h.last.at ≤ t
     → Reaches (eligible_curve s) (h.steep ∷ h.flat ∷ []) t x → Reaches (eligible_curve s) os t x
 both_for_all s h os t x y k = go (nat_le s.m2 s.m1) refl
   where
@@ -74,10 +74,10 @@ both_for_all s h os t x y k = go (nat_le s.m2 s.m1) refl
     go true e r = falling_all s h.steep h.flat t x os (grind (arith, e)) pt qt come (y.steep_low (grind (arith, e))) y.flat_low r.0 r.1.0
     go false e r = straight_all s.m2 h.flat t x os qt come y.flat_low r.1.0
 
-all_for_both : (s e : Curve) (h : Held) (os : List Opening) (t x : ℕ) → StandFor s h os → Reaches e os t x → Reaches e (h.steep ∷ h.flat ∷ []) t x
+all_for_both : (s e : Curve) (h : HeldOpenings) (os : List Opening) (t x : ℕ) → StandFor s h os → Reaches e os t x → Reaches e (h.steep ∷ h.flat ∷ []) t x
 all_for_both s e h os t x y r = (one_of e h.steep t x os y.steep_in r, (one_of e h.flat t x os y.flat_in r, tt))
 
-pub two_eligible : (s : Curve) (h : Held) (os : List Opening) (t x : ℕ) → StandFor s h os → h.last.at ≤ t
+pub two_eligible : (s : Curve) (h : HeldOpenings) (os : List Opening) (t x : ℕ) → StandFor s h os → h.last.at ≤ t
     → reaches (eligible_curve s) (h.steep ∷ h.flat ∷ []) t x ≡ reaches (eligible_curve s) os t x
 two_eligible s h os t x y k =
     let e = eligible_curve s in
@@ -97,7 +97,7 @@ soonest_came s os last t x c =
     let both = later_came (deadline (eligible_curve s) os x) (Some last.at) t c in
     (both.1, deadline_came (eligible_curve s) os t x both.0)
 
-two_soonest_last : (s : Curve) (h : Held) (os : List Opening) (x : ℕ) → StandFor s h os
+two_soonest_last : (s : Curve) (h : HeldOpenings) (os : List Opening) (x : ℕ) → StandFor s h os
     → from_last (Some h.last) (deadline (eligible_curve s) (h.steep ∷ h.flat ∷ []) x) ≡ from_last (Some h.last) (deadline (eligible_curve s) os x)
 two_soonest_last s h os x y =
     same_moment (from_last (Some h.last) (deadline (eligible_curve s) (h.steep ∷ h.flat ∷ []) x)) (from_last (Some h.last) (deadline (eligible_curve s) os x))
@@ -105,7 +105,7 @@ two_soonest_last s h os x y =
     (λ t c. let r = soonest_came s os h.last t x c in
     soonest_comes s (h.steep ∷ h.flat ∷ []) h.last t x r.0 (all_for_both s (eligible_curve s) h os t x y r.1))
 
-pub two_soonest : (s : Curve) (h : Held) (os : List Opening) (x : ℕ) → StandFor s h os
+pub two_soonest : (s : Curve) (h : HeldOpenings) (os : List Opening) (x : ℕ) → StandFor s h os
     → from_last (Some h.last) (deadline (eligible_curve s) (h.steep ∷ h.flat ∷ []) x) ≡ soonest s os x
 two_soonest s h os x y =
     two_soonest_last s h os x y ∙ ap (λ (o : Option Opening). from_last o (deadline (eligible_curve s) os x)) (sym y.last)

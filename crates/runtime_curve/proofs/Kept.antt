@@ -6,7 +6,7 @@ use Rattle.std.specs.declared.option.Option.{Option}
 use Rattle.service_curve.specs.declared.Curve.{Curve}
 use Rattle.runtime_curve.specs.declared.Opening.{Opening}
 use Rattle.runtime_curve.specs.declared.Running.{Running}
-use Rattle.runtime_curve.specs.declared.held.Held.{Held}
+use Rattle.runtime_curve.specs.declared.held.HeldOpenings.{HeldOpenings}
 use Rattle.runtime_curve.specs.declared.held.Kept.{Kept}
 use Rattle.runtime_curve.specs.declared.held.Kept.TheVariants.{One, Three}
 use Rattle.runtime_curve.specs.Opening.{eligible_curve, line}
@@ -51,12 +51,12 @@ one_counted s o count h = let had : nat_le count o.count ≡ true = grind (arith
 pub follows_one : (k : Kept) (only new : Opening) → k ≡ One only → MayFollow (three k) new → IsUpTo new only
 follows_one k only new is f = f (held_one only) (ap three is)
 
-pub follows_three : (k : Kept) (h : Held) (new : Opening) → k ≡ Three h → MayFollow (three k) new → IsUpTo new h.last
+pub follows_three : (k : Kept) (h : HeldOpenings) (new : Opening) → k ≡ Three h → MayFollow (three k) new → IsUpTo new h.last
 follows_three k h new is f = f h (ap three is)
 
 -- and what it stands for
 pub stands_one : (s : Curve) (k : Kept) (only : Opening) (os : List Opening) → k ≡ One only → Stand s (three k) os → StandFor s (held_one only) os
 stands_one s k only os is x = subst (λ (y : Kept). Stand s (three y) os) is x
 
-pub stands_three : (s : Curve) (k : Kept) (h : Held) (os : List Opening) → k ≡ Three h → Stand s (three k) os → StandFor s h os
+pub stands_three : (s : Curve) (k : Kept) (h : HeldOpenings) (os : List Opening) → k ≡ Three h → Stand s (three k) os → StandFor s h os
 stands_three s k h os is x = subst (λ (y : Kept). Stand s (three y) os) is x

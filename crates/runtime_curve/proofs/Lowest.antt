@@ -3,7 +3,7 @@ use Rattle.std.proofs.Common.{◌≡◌, ◌≤◌, ◌<◌, ◌+◌, ◌-◌, �
 use Rattle.std.proofs.lemmas.Nat.{mul-le}
 use Rattle.service_curve.specs.declared.Curve.{Curve}
 use Rattle.runtime_curve.specs.declared.Opening.{Opening}
-use Rattle.runtime_curve.specs.declared.held.Held.{Held}
+use Rattle.runtime_curve.specs.declared.held.HeldOpenings.{HeldOpenings}
 use Rattle.runtime_curve.specs.Held.{Lower, LowerThanAll, IsOneOf, IsUpTo, AreUpTo, StandFor, held_one}
 
 lower_trans : (m : ℕ) (a b c : Opening) → Lower m a b → Lower m b c → Lower m a c
@@ -60,13 +60,13 @@ pub record IsLower (m : ℕ) (old new r : Opening) : Type 0 where
   pub one : (os : List Opening) → IsOneOf old os → IsOneOf r (new ∷ os)
 
 -- the openings that are held stand for one opening more, by the lower of two by each slope
-more_up_to : (h r : Held) (new : Opening) (os : List Opening) → IsUpTo new h.last → r.last ≡ new → AreUpTo h.last os → AreUpTo r.last (new ∷ os)
+more_up_to : (h r : HeldOpenings) (new : Opening) (os : List Opening) → IsUpTo new h.last → r.last ≡ new → AreUpTo h.last os → AreUpTo r.last (new ∷ os)
 more_up_to h r new os k e x = subst (λ (y : Opening). AreUpTo y (new ∷ os)) (sym e) (up_to_itself new, up_to_more h.last new os k x)
 
-new_last : (r : Held) (new : Opening) → r.last ≡ new → Some new ≡ Some r.last
+new_last : (r : HeldOpenings) (new : Opening) → r.last ≡ new → Some new ≡ Some r.last
 new_last r new e = subst (λ (y : Opening). Some new ≡ Some y) (sym e) refl
 
-pub more_stand : (s : Curve) (h r : Held) (new : Opening) (os : List Opening) → StandFor s h os → IsUpTo new h.last → r.last ≡ new
+pub more_stand : (s : Curve) (h r : HeldOpenings) (new : Opening) (os : List Opening) → StandFor s h os → IsUpTo new h.last → r.last ≡ new
     → IsLower s.m1 h.steep new r.steep → IsLower s.m2 h.flat new r.flat → StandFor s r (new ∷ os)
 more_stand s h r new os x k e f g = record {
   steep_in = f.one os x.steep_in;
@@ -78,7 +78,7 @@ more_stand s h r new os x k e f g = record {
 }
 
 -- where the slope does not fall, by that of the second slope alone
-pub one_stands : (s : Curve) (h r : Held) (new : Opening) (os : List Opening) → StandFor s h os → IsUpTo new h.last → r.last ≡ new
+pub one_stands : (s : Curve) (h r : HeldOpenings) (new : Opening) (os : List Opening) → StandFor s h os → IsUpTo new h.last → r.last ≡ new
     → s.m1 ≤ s.m2 → r.steep ≡ r.flat → IsLower s.m2 h.flat new r.flat → StandFor s r (new ∷ os)
 one_stands s h r new os x k e rises same g = record {
   steep_in = subst (λ (y : Opening). IsOneOf y (new ∷ os)) (sym same) (g.one os x.flat_in);
@@ -113,7 +113,7 @@ steeper_all m n a [] h k low = tt
 steeper_all m n a (o ∷ os) h k low = (steeper m n a o h k.0 low.0, steeper_all m n a os h k.1 low.1)
 
 -- a new opening whose line of the second slope is the lowest stands for all
-pub new_stands : (s : Curve) (h : Held) (new : Opening) (os : List Opening) → StandFor s h os → IsUpTo new h.last → Lower s.m2 new h.flat
+pub new_stands : (s : Curve) (h : HeldOpenings) (new : Opening) (os : List Opening) → StandFor s h os → IsUpTo new h.last → Lower s.m2 new h.flat
     → StandFor s (held_one new) (new ∷ os)
 new_stands s h new os x k low =
     let lower = lower_all s.m2 new h.flat os low x.flat_low in

@@ -12,7 +12,7 @@ use Rattle.service_curve.proofs.Amounts.{mul_mono, time_passed}
 use Rattle.runtime_curve.specs.declared.Opening.{Opening}
 use Rattle.runtime_curve.specs.Opening.{line, Reaches, RisesFromZero, eligible_curve}
 use Rattle.runtime_curve.specs.Deadline.{deadline, later_of, reached_at}
-use Rattle.runtime_curve.specs.declared.held.Held.{Held}
+use Rattle.runtime_curve.specs.declared.held.HeldOpenings.{HeldOpenings}
 use Rattle.runtime_curve.specs.Held.{Lower, LowerThanAll, IsOneOf, IsUpTo, AreUpTo, StandFor}
 use Rattle.runtime_curve.proofs.Deadlines.{deadline_comes, deadline_came}
 
@@ -137,14 +137,14 @@ slopes s f = go (cases_lt s.m1 s.m2)
     go (inl a) = inr (f a)
     go (inr a) = inl a
 
-fall_reach : (s : Curve) (h : Held) (t x : ℕ) (os : List Opening) → s.m2 ≤ s.m1 → h.steep.count < x → h.flat.count < x → h.last.count < x
+fall_reach : (s : Curve) (h : HeldOpenings) (t x : ℕ) (os : List Opening) → s.m2 ≤ s.m1 → h.steep.count < x → h.flat.count < x → h.last.count < x
     → AreUpTo h.last os → LowerThanAll s.m1 h.steep os → LowerThanAll s.m2 h.flat os → x ≤ line s t h.steep → x ≤ line s t h.flat → Reaches s os t x
 fall_reach s h t x [] k a b c n low lower f g = tt
 fall_reach s h t x (o ∷ os) k a b c n low lower f g =
     let below : o.count ≤ h.last.count = n.0.count in
     (falling_reach s h.steep h.flat o t x k a b (omega arith) low.0 lower.0 f g, fall_reach s h t x os k a b c n.1 low.1 lower.1 f g)
 
-rise_reach : (s : Curve) (h : Held) (t x : ℕ) (os : List Opening) → s.m1 ≡ 0 → h.flat.count < x → h.last.count < x
+rise_reach : (s : Curve) (h : HeldOpenings) (t x : ℕ) (os : List Opening) → s.m1 ≡ 0 → h.flat.count < x → h.last.count < x
     → AreUpTo h.last os → LowerThanAll s.m2 h.flat os → x ≤ line s t h.flat → Reaches s os t x
 rise_reach s h t x [] e b c n lower g = tt
 rise_reach s h t x (o ∷ os) e b c n lower g =
@@ -168,7 +168,7 @@ same_moment (Some x) None f g = absurd (f x (omega arith))
 same_moment (Some x) (Some y) f g = let one = f x (omega arith) in let two = g y (omega arith) in let e : x ≡ y = omega arith in ap Some e
 
 -- the deadline over two openings that stand for all is that over all
-pub two_deadline : (s : Curve) (h : Held) (os : List Opening) (x : ℕ) → RisesFromZero s → StandFor s h os → h.last.count < x
+pub two_deadline : (s : Curve) (h : HeldOpenings) (os : List Opening) (x : ℕ) → RisesFromZero s → StandFor s h os → h.last.count < x
     → deadline s (h.steep ∷ h.flat ∷ []) x ≡ deadline s os x
 two_deadline s h os x k y n =
     same_moment (deadline s (h.steep ∷ h.flat ∷ []) x) (deadline s os x)

@@ -43,7 +43,7 @@ eligible_curve s = if nat_le s.m2 s.m1 then s else straight s.m2
 abbrev pub RisesFromZero : Curve → Type 0
 RisesFromZero s = s.m1 < s.m2 → s.m1 ≡ 0
 
-pub record IsWithin (o : Opening) : Type 0 where
+pub record OpeningFits (o : Opening) : Type 0 where
   pub at : o.at < 2 ^ 80
   pub count : o.count < 2 ^ 100
 

@@ -16,7 +16,7 @@ AreUpToLast (Some last) os = AreUpTo last os
 unfoldable pub last_of : Running → Option Opening
 last_of running = last_held (three running.kept)
 
-pub record StandsFor (running : Running) (s : Curve) (os : List Opening) : Type 0 where
+pub record Represents (running : Running) (s : Curve) (os : List Opening) : Type 0 where
   pub curve : running.curve ≡ s
   pub last : last_of running ≡ newest os
   pub up_to : AreUpToLast (newest os) os

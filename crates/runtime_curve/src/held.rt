@@ -3,8 +3,8 @@ ghost use Rattle.std.specs.Prelude.{◌≡◌, ◌≤◌, ◌^◌, ◌∷◌, Li
 ghost use Rattle.service_curve.specs.Curve.{IsInRange};
 ghost use Rattle.runtime_curve.specs.declared.Opening.{Opening};
 ghost use Rattle.runtime_curve.specs.declared.held.Kept.TheVariants.{One};
-ghost use Rattle.runtime_curve.specs.Opening.{IsWithin};
-ghost use Rattle.runtime_curve.specs.Held.{IsAboveOne, IsHeld, IsKept, IsUpTo, Lower, MayFollow, Stand, StandFor, last_held, three};
+ghost use Rattle.runtime_curve.specs.Opening.{OpeningFits};
+ghost use Rattle.runtime_curve.specs.Held.{IsAboveOne, AreHeldOpenings, IsKept, IsUpTo, Lower, MayFollow, Stand, StandFor, last_held, three};
 
 use crate::Opening;
 use service_curve::Curve;
@@ -12,7 +12,7 @@ use service_curve::Curve;
 /// Of all openings the one whose line of the first slope is lowest, where the slope falls, the one whose line of the second
 /// slope is lowest, and the last.
 #[derive(Clone, Copy, Debug, PartialEq, Eq)]
-pub struct Held {
+pub struct HeldOpenings {
     pub steep: Opening,
     pub flat: Opening,
     pub last: Opening,
@@ -26,7 +26,7 @@ pub enum Kept {
     /// The last, which stands for all.
     One(Opening),
     /// Those that stand for all.
-    Three(Held),
+    Three(HeldOpenings),
 }
 
 /// Whether the line of a slope through a new opening, not before another, is nowhere above that one's.
@@ -34,8 +34,8 @@ pub enum Kept {
 #[tactic(auto, using(crate::proofs::Lowest::new_lower, crate::proofs::Lowest::old_lower))]
 fn is_lower(slope: u64, kept: &Opening, new: &Opening) -> bool
     requires slope { slope ≤ 10 ^ 12 }
-    requires kept { IsWithin kept.now }
-    requires new { IsWithin new.now }
+    requires kept { OpeningFits kept.now }
+    requires new { OpeningFits new.now }
     requires order { IsUpTo new.now kept.now }
     ensures lower { result ≡ true → Lower slope new.now kept.now }
     ensures higher { result ≡ false → Lower slope kept.now new.now }
@@ -48,7 +48,7 @@ fn is_lower(slope: u64, kept: &Opening, new: &Opening) -> bool
 #[inline(always)]
 pub fn add_opening(curve: &Curve, kept: &mut Kept, new: Opening)
     requires in_range { IsInRange curve.now }
-    requires new { IsWithin new }
+    requires new { OpeningFits new }
     requires kept { IsKept curve.now kept.old }
     requires follows { MayFollow (three kept.old) new }
     ensures kept { IsKept curve.now kept.new }
@@ -71,7 +71,7 @@ pub fn add_opening(curve: &Curve, kept: &mut Kept, new: Opening)
 #[inline(never)]
 fn add_beside(curve: &Curve, kept: &mut Kept, new: Opening)
     requires in_range { IsInRange curve.now }
-    requires new { IsWithin new }
+    requires new { OpeningFits new }
     requires kept { IsKept curve.now kept.old }
     requires follows { MayFollow (three kept.old) new }
     requires above { IsAboveOne curve.now kept.old new }
@@ -94,17 +94,17 @@ fn add_beside(curve: &Curve, kept: &mut Kept, new: Opening)
 
 /// A second opening, whose line of the second slope is not lower than that of the first.
 #[inline(always)]
-fn second_opening(curve: &Curve, first: Opening, new: Opening) -> Held
+fn second_opening(curve: &Curve, first: Opening, new: Opening) -> HeldOpenings
     requires in_range { IsInRange curve.now }
-    requires first { IsWithin first }
-    requires new { IsWithin new }
+    requires first { OpeningFits first }
+    requires new { OpeningFits new }
     requires order { IsUpTo new first }
     requires above { Lower curve.now.m2 first new }
-    ensures held { IsHeld curve.now result }
+    ensures held { AreHeldOpenings curve.now result }
     ensures last { result.last ≡ new }
     ensures opened { (os : List Opening) → Stand curve.now (three (One first)) os → StandFor curve.now result (new ∷ os) }
 {
-    let mut held = Held {
+    let mut held = HeldOpenings {
         steep: first,
         flat: first,
         last: first,
@@ -115,13 +115,13 @@ fn second_opening(curve: &Curve, first: Opening, new: Opening) -> Held
 
 /// One opening more whose line of the second slope is not lower than the lowest. Where the slope does not fall that line alone
 /// counts, and both openings are the one whose line it is.
-fn add_last(curve: &Curve, held: &mut Held, new: Opening)
+fn add_last(curve: &Curve, held: &mut HeldOpenings, new: Opening)
     requires in_range { IsInRange curve.now }
-    requires new { IsWithin new }
-    requires held { IsHeld curve.now held.old }
+    requires new { OpeningFits new }
+    requires held { AreHeldOpenings curve.now held.old }
     requires last { IsUpTo new held.old.last }
     requires above { Lower curve.now.m2 held.old.flat new }
-    ensures held { IsHeld curve.now held.new }
+    ensures held { AreHeldOpenings curve.now held.new }
     ensures last { held.new.last ≡ new }
     ensures opened { (os : List Opening) → StandFor curve.now held.old os → StandFor curve.now held.new (new ∷ os) }
 {

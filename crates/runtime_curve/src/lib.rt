@@ -52,13 +52,13 @@ pub struct Running {
 }
 
 impl Running {
-    ghost use Rattle.runtime_curve.specs.Running.{StandsFor, last_of, deadline_now, eligible_now, soonest_now};
+    ghost use Rattle.runtime_curve.specs.Running.{Represents, last_of, deadline_now, eligible_now, soonest_now};
 
     /// The curve without an opening. If its slope rises, it has to rise from 0.
     pub fn new(curve: Curve) -> Running
         requires in_range { IsInRange curve }
         requires slopes { RisesFromZero curve }
-        ensures none { StandsFor result curve [] }
+        ensures none { Represents result curve [] }
         ensures empty { last_of result ≡ None }
     {
         Running {
@@ -75,8 +75,8 @@ impl Running {
         requires at { at < 2 ^ 80 }
         requires count { count < 2 ^ 100 }
         requires later { ForSome (last_of self.old) (λ last. (last.at ≤ at) × (last.count ≤ count)) }
-        ensures opened { (s : Curve) (os : List Opening) → StandsFor self.old s os
-            → StandsFor self.new s (opening at count ∷ os) }
+        ensures opened { (s : Curve) (os : List Opening) → Represents self.old s os
+            → Represents self.new s (opening at count ∷ os) }
         ensures last { last_of self.new ≡ Some (opening at count) }
     {
         add_opening(&self.curve, &mut self.kept, Opening { at, count });
@@ -89,9 +89,9 @@ impl Running {
     pub fn deadline(&self, count: u128) -> Option<u128>
         requires amount { count < 2 ^ 100 }
         requires opened { IsSomeAnd (last_of self.now) (λ last. last.count < count) }
-        ensures first { (s : Curve) (os : List Opening) → StandsFor self.now s os
+        ensures first { (s : Curve) (os : List Opening) → Represents self.now s os
             → IsFirst (λ t. IsAtLeast (least_over s os t) count) result }
-        ensures is { (s : Curve) (os : List Opening) → StandsFor self.now s os → result ≡ deadline s os count }
+        ensures is { (s : Curve) (os : List Opening) → Represents self.now s os → result ≡ deadline s os count }
         ensures now { result ≡ deadline_now self.now count }
     {
         self.deadline_kept(count)
@@ -117,9 +117,9 @@ impl Running {
         requires now { now < 2 ^ 80 }
         requires amount { count < 2 ^ 101 }
         requires opened { IsSomeAnd (last_of self.now) (λ last. last.at ≤ now) }
-        ensures reached { (s : Curve) (os : List Opening) → StandsFor self.now s os
+        ensures reached { (s : Curve) (os : List Opening) → Represents self.now s os
             → (IsTrue result ↔ IsAtLeast (least_over (eligible_curve s) os now) count) }
-        ensures is { (s : Curve) (os : List Opening) → StandsFor self.now s os
+        ensures is { (s : Curve) (os : List Opening) → Represents self.now s os
             → result ≡ reaches (eligible_curve s) os now count }
         ensures now { result ≡ eligible_now self.now now count }
     {
@@ -146,9 +146,9 @@ impl Running {
     pub fn soonest(&self, count: u128) -> Option<u128>
         requires amount { count < 2 ^ 100 }
         requires opened { IsSome (last_of self.now) }
-        ensures first { (s : Curve) (os : List Opening) → StandsFor self.now s os
+        ensures first { (s : Curve) (os : List Opening) → Represents self.now s os
             → IsFirst (λ t. IsFrom os t × IsAtLeast (least_over (eligible_curve s) os t) count) result }
-        ensures is { (s : Curve) (os : List Opening) → StandsFor self.now s os → result ≡ soonest s os count }
+        ensures is { (s : Curve) (os : List Opening) → Represents self.now s os → result ≡ soonest s os count }
         ensures now { result ≡ soonest_now self.now count }
     {
         self.soonest_kept(count)

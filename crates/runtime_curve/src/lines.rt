@@ -2,13 +2,13 @@
 ghost use Rattle.std.specs.Prelude.{◌≡◌, ◌<◌, ◌≤◌, ◌^◌, ◌∷◌, [], Some, nat_le, true};
 ghost use Rattle.service_curve.specs.declared.Curve.{Curve};
 ghost use Rattle.service_curve.specs.Curve.{IsInRange};
-ghost use Rattle.runtime_curve.specs.Opening.{IsWithin, line, eligible_curve};
+ghost use Rattle.runtime_curve.specs.Opening.{OpeningFits, line, eligible_curve};
 ghost use Rattle.runtime_curve.specs.Deadline.{later_of, reached_at, deadline, reaches};
 ghost use Rattle.runtime_curve.specs.Held.{AreOne};
 ghost use Rattle.runtime_curve.specs.Lines.{allows_by};
 
 use crate::Opening;
-use crate::held::Held;
+use crate::held::HeldOpenings;
 use service_curve::{Curve, Inverses};
 
 /// Up to moments before this one, in nanoseconds, amounts of curves fit in 128 bits.
@@ -33,7 +33,7 @@ pub fn reached_at(
     count: u128,
 ) -> Option<u128>
     requires in_range { IsInRange curve.now }
-    requires within { IsWithin opening.now }
+    requires within { OpeningFits opening.now }
     requires amount { count < 2 ^ 100 }
     ensures { result ≡ reached_at curve.now opening.now count }
 {
@@ -57,8 +57,8 @@ fn latest_of(
     count: u128,
 ) -> Option<u128>
     requires in_range { IsInRange curve.now }
-    requires one { IsWithin one.now }
-    requires other { IsWithin other.now }
+    requires one { OpeningFits one.now }
+    requires other { OpeningFits other.now }
     requires amount { count < 2 ^ 100 }
     ensures { result ≡ deadline curve.now (one.now ∷ other.now ∷ []) count }
 {
@@ -79,7 +79,7 @@ fn later_than(
     count: u128,
 ) -> Option<u128>
     requires in_range { IsInRange curve.now }
-    requires within { IsWithin opening.now }
+    requires within { OpeningFits opening.now }
     requires amount { count < 2 ^ 100 }
     ensures { result ≡ later_of (reached_at curve.now opening.now count) (later_of other (Some 0)) }
 {
@@ -92,7 +92,7 @@ fn later_than(
 /// Whether an opening allows a count up to a moment that is there, and is early enough for the amounts of a curve.
 fn allows_by(curve: &Curve, opening: &Opening, moment: Option<u128>, count: u128) -> bool
     requires in_range { IsInRange curve.now }
-    requires within { IsWithin opening.now }
+    requires within { OpeningFits opening.now }
     ensures { result ≡ allows_by curve.now opening.now moment count }
 {
     match moment {
@@ -104,10 +104,15 @@ fn allows_by(curve: &Curve, opening: &Opening, moment: Option<u128>, count: u128
 /// The first moment up to which the openings that stand for all allow a count. Where the slope does not fall they are one.
 #[inline(never)]
 #[tactic(auto, using(crate::proofs::TwoLines::one_line))]
-pub fn deadline_of(curve: &Curve, inverses: &Inverses, held: &Held, count: u128) -> Option<u128>
+pub fn deadline_of(
+    curve: &Curve,
+    inverses: &Inverses,
+    held: &HeldOpenings,
+    count: u128,
+) -> Option<u128>
     requires in_range { IsInRange curve.now }
-    requires steep { IsWithin held.now.steep }
-    requires flat { IsWithin held.now.flat }
+    requires steep { OpeningFits held.now.steep }
+    requires flat { OpeningFits held.now.flat }
     requires one { AreOne curve.now held.now }
     requires amount { count < 2 ^ 100 }
     ensures { result ≡ deadline curve.now (held.now.steep ∷ held.now.flat ∷ []) count }
@@ -120,10 +125,15 @@ pub fn deadline_of(curve: &Curve, inverses: &Inverses, held: &Held, count: u128)
 
 /// The same by the curve that makes a class eligible.
 #[tactic(auto, using(crate::proofs::TwoLines::one_line, crate::proofs::TwoLines::falls))]
-pub fn early_of(curve: &Curve, inverses: &Inverses, held: &Held, count: u128) -> Option<u128>
+pub fn early_of(
+    curve: &Curve,
+    inverses: &Inverses,
+    held: &HeldOpenings,
+    count: u128,
+) -> Option<u128>
     requires in_range { IsInRange curve.now }
-    requires steep { IsWithin held.now.steep }
-    requires flat { IsWithin held.now.flat }
+    requires steep { OpeningFits held.now.steep }
+    requires flat { OpeningFits held.now.flat }
     requires one { AreOne curve.now held.now }
     requires amount { count < 2 ^ 100 }
     ensures { result ≡ deadline (eligible_curve curve.now) (held.now.steep ∷ held.now.flat ∷ []) count }
@@ -138,7 +148,7 @@ pub fn early_of(curve: &Curve, inverses: &Inverses, held: &Held, count: u128) ->
 #[tactic(auto, using(crate::proofs::TwoLines::rises_not))]
 pub fn early_at(curve: &Curve, inverses: &Inverses, opening: &Opening, count: u128) -> Option<u128>
     requires in_range { IsInRange curve.now }
-    requires within { IsWithin opening.now }
+    requires within { OpeningFits opening.now }
     requires amount { count < 2 ^ 100 }
     ensures { result ≡ reached_at (eligible_curve curve.now) opening.now count }
 {
@@ -187,7 +197,7 @@ pub fn eligible_curve(curve: &Curve) -> Curve
 /// Whether an opening allows a count up to a moment.
 pub fn allows(curve: &Curve, opening: &Opening, now: u128, count: u128) -> bool
     requires in_range { IsInRange curve.now }
-    requires within { IsWithin opening.now }
+    requires within { OpeningFits opening.now }
     requires now { now < 2 ^ 80 }
     ensures { result ≡ nat_le count (line curve.now now opening.now) }
 {
@@ -197,8 +207,8 @@ pub fn allows(curve: &Curve, opening: &Opening, now: u128, count: u128) -> bool
 /// Whether two openings allow a count up to a moment.
 pub fn both_allow(curve: &Curve, one: &Opening, other: &Opening, now: u128, count: u128) -> bool
     requires in_range { IsInRange curve.now }
-    requires one { IsWithin one.now }
-    requires other { IsWithin other.now }
+    requires one { OpeningFits one.now }
+    requires other { OpeningFits other.now }
     requires now { now < 2 ^ 80 }
     ensures { result ≡ reaches curve.now (one.now ∷ other.now ∷ []) now count }
 {

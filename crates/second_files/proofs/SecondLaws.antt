@@ -2,7 +2,7 @@
 use Rattle.std.proofs.Common.{◌⊎◌, ℕ, List, ◌∷◌, Ok, Err, ap, inl, inr}
 use Rattle.std.specs.Prelude.{IfOk, OnErr, OnOk}
 use Rattle.std.specs.declared.result.Result.{Result}
-use Rattle.play_base.specs.View.{View, Any, Created, IsMissed, IsNew, Keeps, Later, NoneAppears, Opened, ReadFault, Rose, Said, SameCounts, Took, Unchanged, WriteFault, Wrote}
+use Rattle.play_base.specs.View.{View, Everything, Created, IsMissed, IsNewFile, Keeps, Later, NoneAppears, Opened, ReadFault, Rose, Said, SameCounts, Took, Unchanged, WriteFault, Wrote}
 use Rattle.second_files.specs.Parts.{own_part, play_part, second_view}
 use Rattle.second_files.proofs.PartLaws.{none_behind, none_seen, part_behind, part_seen}
 
@@ -46,9 +46,9 @@ module _ (v w : View) (g : ℕ) where
   counts_seen h = record { read = λ p. h.read (own_part p); write = λ p. h.write (own_part p) }
 
   pub unchanged_seen : Unchanged v w → Unchanged Old New
-  unchanged_seen h = record { keeps = keeps_seen Any Any h.keeps; none = none_appears h.none; said = h.said }
+  unchanged_seen h = record { keeps = keeps_seen Everything Everything h.keeps; none = none_appears h.none; said = h.said }
 
-  pub new_seen : (p : ℕ) (name : List ℕ) (file : ℕ) → IsNew v w (own_part p) name file → IsNew Old New p name file
+  pub new_seen : (p : ℕ) (name : List ℕ) (file : ℕ) → IsNewFile v w (own_part p) name file → IsNewFile Old New p name file
   new_seen p name file h = record {
     fresh = none_seen (v.part file) h.fresh;
     part = part_seen (w.part file) p h.part;
@@ -58,7 +58,7 @@ module _ (v w : View) (g : ℕ) where
   }
 
   pub opened_seen : (p : ℕ) (name : List ℕ) (file : ℕ) → Opened v w (own_part p) name file → Opened Old New p name file
-  opened_seen p name file h = record { is_new = new_seen p name file h.is_new; left = h.left; keeps = keeps_seen Any Any h.keeps }
+  opened_seen p name file h = record { is_new = new_seen p name file h.is_new; left = h.left; keeps = keeps_seen Everything Everything h.keeps }
 
   pub created_seen : (p : ℕ) (name : List ℕ) (file : ℕ) → Created v w (own_part p) name file → Created Old New p name file
   created_seen p name file h = record { is_new = new_seen p name file h.is_new; empty = h.empty; keeps = keeps_seen _ _ h.keeps }
@@ -70,7 +70,7 @@ module _ (v w : View) (g : ℕ) where
   wrote_seen file bytes h = record { grown = h.grown; keeps = keeps_seen _ _ h.keeps; none = none_appears h.none; said = h.said }
 
   pub said_seen : (text : List ℕ) → Said v w text → Said Old New text
-  said_seen text h = record { grown = h.grown; keeps = keeps_seen Any Any h.keeps; none = none_appears h.none }
+  said_seen text h = record { grown = h.grown; keeps = keeps_seen Everything Everything h.keeps; none = none_appears h.none }
 
   pub read_fault_seen : (file : ℕ) → ReadFault v w file → ReadFault Old New file
   read_fault_seen file h = λ p there. h (own_part p) (part_behind (v.part file) p there)

@@ -16,7 +16,7 @@ use Rattle.share_gaps.specs.declared.siblings.Siblings.{Siblings}
 use Rattle.share_gaps.specs.Rows.{are_siblings, pair, rows, rows_from, rows_of}
 use Rattle.share_gaps.specs.Bounds.{bound_of, gap_of, shares_alone}
 use Rattle.share_gaps.specs.declared.watch.Watch.{Watch}
-use Rattle.share_gaps.specs.Watching.{Stand, StandsFor, bound_in, gap_after, gap_in, lead_of}
+use Rattle.share_gaps.specs.Watching.{Stand, Represents, bound_in, gap_after, gap_in, lead_of}
 use Rattle.share_gaps.specs.Within.{rate_of}
 use Rattle.share_gaps.specs.declared.gap.Gap.{Gap}
 use Rattle.share_gaps.proofs.Pairs.{IsPair, row_pair}
@@ -72,7 +72,7 @@ length_rates (k ∷ ks) = let rest = length_rates ks in omega (arith, rest)
 
 -- the gap of a row
 pub gap_is : (w : Watch) (row : ℕ) (x : Lead) (h : HfscHistory) (s : Siblings) (one two : Option ℕ) (gap bound : Option ℕ)
-    → StandsFor w h → slice_get w.siblings.items row ≡ Some s → x ≡ get_or w.leads.items row x
+    → Represents w h → slice_get w.siblings.items row ≡ Some s → x ≡ get_or w.leads.items row x
     → one ≡ get_or w.rates.items s.first one → two ≡ get_or w.rates.items s.second two → gap ≡ gap_of x.most one two
     → bound ≡ (if shares_alone w.classes.items && is_some gap then bound_of w.classes.items (class_of w.classes.items s.first).parent (units w.longest) else None)
     → Some (record { first = s.first; second = s.second; gap = gap; bound = bound }) ≡ option_map (gap_after w.classes.items h) (slice_get (rows w.classes.items) row)

@@ -28,7 +28,7 @@ use Rattle.share_gaps.specs.Leads.{held, lead, most_lead}
 use Rattle.share_gaps.specs.Rows.{IsPlace, first_in, firsts_in, is_in, rows, second_in, seconds_in}
 use Rattle.share_gaps.specs.Serve.{after_gains, both_active, first_served, gain_of, one_less, one_more, rate_at, second_served, update_all}
 use Rattle.share_gaps.specs.declared.watch.Watch.{Watch}
-use Rattle.share_gaps.specs.Watching.{Stand, StandsFor, lead_of, rate_in}
+use Rattle.share_gaps.specs.Watching.{Stand, Represents, lead_of, rate_in}
 use Rattle.share_gaps.specs.Within.{line_rate, rate_of}
 use Rattle.share_gaps.proofs.Held.{active_is_held}
 use Rattle.share_gaps.proofs.Leads.{lead_active, lead_within, leads_back, leads_in}
@@ -297,7 +297,7 @@ leads_after w l len =
     update_all (second_served w.siblings.items (left w.classes.items l w.waiting.items) w.rates.items (units len)) (seconds_in w.siblings.items (path w.classes.items l))
     (update_all (first_served w.siblings.items (left w.classes.items l w.waiting.items) w.rates.items (units len)) (firsts_in w.siblings.items (path w.classes.items l)) w.leads.items)
 
-sent_row : (w : Watch) (l len : ℕ) (real : Bool) (start : ℕ) (h : HfscHistory) → StandsFor w h → IsHead (leaf h l).waiting len
+sent_row : (w : Watch) (l len : ℕ) (real : Bool) (start : ℕ) (h : HfscHistory) → Represents w h → IsHead (leaf h l).waiting len
     → (i : ℕ) (s : Siblings) → slice_get w.siblings.items i ≡ Some s → slice_get (leads_after w l len) i ≡ Some (lead_of w.classes.items s (Sent l len real start ∷ h))
 sent_row w l len real start h stand head i s e =
     second_all
@@ -409,7 +409,7 @@ abbrev pub served : List Siblings → Place → List (Option ℕ) → (amount : 
 served ss x rates u ws ls = update_all (second_served ss ws rates u) x.seconds.items (update_all (first_served ss ws rates u) x.firsts.items ls)
 
 pub sent_stands : (w : Watch) (x : Place) (l len : ℕ) (real : Bool) (start : ℕ) (h : HfscHistory)
-    → IsPlace w.classes.items w.siblings.items l x → StandsFor w h → IsHead (leaf h l).waiting len
+    → IsPlace w.classes.items w.siblings.items l x → Represents w h → IsHead (leaf h l).waiting len
     → Stand w.classes.items w.siblings.items (left_of x w.waiting.items) (served w.siblings.items x w.rates.items (units len) (left_of x w.waiting.items) w.leads.items)
     (max w.longest len) (Sent l len real start ∷ h)
 sent_stands w x l len real start h place s head = record {

@@ -40,8 +40,8 @@ pub record Stand (cs : List HfscClass) (ss : List Siblings) (waiting : List ℕ)
   pub waits : (c : ℕ) → c < length cs → slice_get waiting c ≡ Some (held cs c h)
   pub lead_at : (i : ℕ) (s : Siblings) → slice_get ss i ≡ Some s → slice_get leads i ≡ Some (lead_of cs s h)
 
-abbrev pub StandsFor : Watch → HfscHistory → Type 0
-StandsFor w h = Stand w.classes.items w.siblings.items w.waiting.items w.leads.items w.longest h
+abbrev pub Represents : Watch → HfscHistory → Type 0
+Represents w h = Stand w.classes.items w.siblings.items w.waiting.items w.leads.items w.longest h
 
 -- the gap of two siblings after a history
 abbrev pub gap_in : List HfscClass → HfscHistory → Siblings → Option ℕ

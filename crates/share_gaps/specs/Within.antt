@@ -15,12 +15,12 @@ abbrev pub rate_of : HfscClass → Option ℕ
 rate_of k = line_rate k.share
 
 -- both classes of each row are among the first n
-pub record IsWithin (n : ℕ) (s : Siblings) : Type 0 where
+pub record ClassesAreWithin (n : ℕ) (s : Siblings) : Type 0 where
   pub first : s.first < n
   pub second : s.second < n
 
 abbrev pub AreWithin : (n : ℕ) → List Siblings → Type 0
-AreWithin n ss = (i : ℕ) (s : Siblings) → slice_get ss i ≡ Some s → IsWithin n s
+AreWithin n ss = (i : ℕ) (s : Siblings) → slice_get ss i ≡ Some s → ClassesAreWithin n s
 
 pub record ArePlaces (cs : List HfscClass) (ss : List Siblings) (xs : List Place) : Type 0 where
   pub count : length xs ≡ length cs

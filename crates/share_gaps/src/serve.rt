@@ -1,7 +1,7 @@
 //! What a sending does to packets that wait and to leads.
 ghost use Rattle.std.specs.Prelude.{◌≡◌, ◌<◌, ℕ, List, Option, length, slice_index, EachIndex, if◌then◌else◌};
 ghost use Rattle.share_gaps.specs.Serve.{after_gains, both_active, first_served, gain_of, one_less, one_more, rate_at, second_served, update_all};
-ghost use Rattle.share_gaps.specs.Within.{AreWithin, IsWithin};
+ghost use Rattle.share_gaps.specs.Within.{AreWithin, ClassesAreWithin};
 
 use crate::lead::{Lead, gain};
 use crate::place::Place;
@@ -51,7 +51,7 @@ pub fn leave(waiting: &mut [u32], place: &Place)
 
 /// A packet waits in both classes, or below them.
 fn are_active(waiting: &[u32], siblings: &Siblings) -> bool
-    requires { IsWithin (length waiting.now) siblings.now }
+    requires { ClassesAreWithin (length waiting.now) siblings.now }
     ensures { result ≡ both_active waiting.now siblings.now }
 {
     waiting[siblings.first as usize] > 0 && waiting[siblings.second as usize] > 0
@@ -65,7 +65,7 @@ fn first_served(
     rates: &[Option<u64>],
     amount: u128,
 ) -> Lead
-    requires within { IsWithin (length waiting.now) siblings.now }
+    requires within { ClassesAreWithin (length waiting.now) siblings.now }
     requires rates { length rates.now ≡ length waiting.now }
     ensures { result ≡ after_gains lead (both_active waiting.now siblings.now) (gain_of amount (rate_at rates.now siblings.now.second)) 0 }
 {
@@ -81,7 +81,7 @@ fn second_served(
     rates: &[Option<u64>],
     amount: u128,
 ) -> Lead
-    requires within { IsWithin (length waiting.now) siblings.now }
+    requires within { ClassesAreWithin (length waiting.now) siblings.now }
     requires rates { length rates.now ≡ length waiting.now }
     ensures { result ≡ after_gains lead (both_active waiting.now siblings.now) 0 (gain_of amount (rate_at rates.now siblings.now.first)) }
 {

@@ -79,14 +79,14 @@ fn level_leads(alloc: Global, count: usize) -> Result<Vec<Lead>, NoMemory>
 }
 
 impl Watch {
-    ghost use Rattle.share_gaps.specs.Watching.{StandsFor, classes_of, gap_after};
+    ghost use Rattle.share_gaps.specs.Watching.{Represents, classes_of, gap_after};
 
     /// A tree of at most 256 classes, of which nothing was kept or sent. Takes all the memory that it will ever take; `NoMemory` comes
     /// only when memory runs out.
     pub fn build(alloc: Global, classes: &[HfscClass]) -> Result<Watch, NoMemory>
         requires count { length classes.now ≤ 256 }
         requires tree { IsClassTree classes.now }
-        ensures stands { IfOk result (λ w. StandsFor w []) }
+        ensures stands { IfOk result (λ w. Represents w []) }
         ensures classes { IfOk result (λ w. classes_of w ≡ classes.now) }
     {
         let siblings = rows_of(alloc, classes)?;
@@ -108,7 +108,7 @@ impl Watch {
         })
     }
 
-    /// The classes that it watches. Takes no memory.
+    /// The classes that it watches. Does not allocate.
     pub fn classes(&self) -> &[HfscClass]
         ensures { result.now ≡ classes_of self.now }
     {
@@ -116,10 +116,11 @@ impl Watch {
     }
 
     /// The gap of a pair of siblings, by its row: the pairs stand in the order of the file of the first, then of the second. `None` comes
-    /// exactly past the last. Takes no memory.
+    /// exactly past the last. Does not allocate.
     pub fn gap(&self, row: u32) -> Option<Gap>
         ensures none { IsNone result ↔ (length (rows (classes_of self.now)) ≤ row) }
-        ensures gap { (h : HfscHistory) → StandsFor self.now h → result ≡ option_map (gap_after (classes_of self.now) h) (slice_get (rows (classes_of self.now)) row) }
+        ensures gap { (h : HfscHistory) → Represents self.now h
+            → result ≡ option_map (gap_after (classes_of self.now) h) (slice_get (rows (classes_of self.now)) row) }
     {
         if row as usize >= self.siblings.len() {
             return None;
@@ -155,7 +156,8 @@ impl Watch {
 
     /// A packet was kept in a class.
     pub fn kept(&mut self, class: u32)
-        ensures stands { (h : HfscHistory) (at len : ℕ) → StandsFor self.old h → kept_in h < 4000000 → IsSized len → StandsFor self.new (Enqueued class at len ∷ h) }
+        ensures stands { (h : HfscHistory) (at len : ℕ) → Represents self.old h → kept_in h < 4000000 → IsSized len
+            → Represents self.new (Enqueued class at len ∷ h) }
         ensures classes { classes_of self.new ≡ classes_of self.old }
     {
         if class as usize >= self.places.len() {
@@ -166,8 +168,8 @@ impl Watch {
 
     /// The head of a class, of `len` bytes, was sent. It takes a time that grows with the siblings of the class and of those above it.
     pub fn sent(&mut self, class: u32, len: u32)
-        ensures stands { (h : HfscHistory) (real : Bool) (start : ℕ) → StandsFor self.old h → IsHead (leaf h class).waiting len
-            → StandsFor self.new (Sent class len real start ∷ h) }
+        ensures stands { (h : HfscHistory) (real : Bool) (start : ℕ) → Represents self.old h → IsHead (leaf h class).waiting len
+            → Represents self.new (Sent class len real start ∷ h) }
         ensures classes { classes_of self.new ≡ classes_of self.old }
     {
         self.longest = self.longest.max(len);

@@ -1,6 +1,6 @@
 //! A discipline that is watched.
 ghost use Rattle.std.specs.Prelude.{◌≡◌, ◌≤◌, ◌↔◌, [], ℕ, List, IfOk, IsNone, Some, length, option_map, slice_get};
-ghost use Rattle.altq_model.specs.History.{Happened, bare};
+ghost use Rattle.altq_model.specs.History.{LabelledEvent, unlabelled};
 ghost use Rattle.hfsc_order.specs.Order.{HaveSlopes};
 ghost use Rattle.hfsc_policy.specs.Classes.{IsClassTree};
 ghost use Rattle.hfsc_policy.specs.Events.{hfsc_history};
@@ -35,11 +35,11 @@ impl<D: Discipline + Drop> Watched<D> {
     pub fn build(alloc: Global, inner: D, classes: &[HfscClass]) -> Result<Watched<D>, NoMemory>
         requires count { length classes.now ≤ 256 }
         requires tree { IsClassTree classes.now }
-        requires empty { D.stands inner [] }
-        requires hfsc { IsHfscOver classes.now (D.policy inner) }
-        ensures empty { IfOk result (λ d. ⟦<Watched<D> as Discipline>⟧.stands d []) }
-        ensures policy { IfOk result (λ d. ⟦<Watched<D> as Discipline>⟧.policy d ≡ D.policy inner) }
-        ensures rate { IfOk result (λ d. ⟦<Watched<D> as Discipline>⟧.link_rate d ≡ D.link_rate inner) }
+        requires empty { (D.view inner).represents [] }
+        requires hfsc { IsHfscOver classes.now (D.view inner).policy }
+        ensures empty { IfOk result (λ d. (⟦<Watched<D> as Discipline>⟧.view d).represents []) }
+        ensures policy { IfOk result (λ d. (⟦<Watched<D> as Discipline>⟧.view d).policy ≡ (D.view inner).policy) }
+        ensures rate { IfOk result (λ d. (⟦<Watched<D> as Discipline>⟧.view d).link_rate ≡ (D.view inner).link_rate) }
         ensures classes { IfOk result (λ d. classes_in d ≡ classes.now) }
     {
         let watch = Watch::build(alloc, classes)?;
@@ -58,11 +58,14 @@ impl<D: Discipline + Drop> Watched<D> {
     /// memory.
     pub fn gaps(&self, row: u32) -> Option<Gap>
         ensures none { IsNone result ↔ (length (rows (classes_in self.now)) ≤ row) }
-        ensures exact { (h : List Happened) → ⟦<Watched<D> as Discipline>⟧.stands self.now h → result ≡ option_map (gap_after (classes_in self.now) (hfsc_history (bare h)))
+        ensures exact { (h : List LabelledEvent) → (⟦<Watched<D> as Discipline>⟧.view self.now).represents h
+            → result ≡ option_map (gap_after (classes_in self.now) (hfsc_history (unlabelled h)))
             (slice_get (rows (classes_in self.now)) row) }
-        ensures gap { (h : List Happened) (s : Siblings) → ⟦<Watched<D> as Discipline>⟧.stands self.now h → slice_get (rows (classes_in self.now)) row ≡ Some s
-            → IsReported (classes_in self.now) (hfsc_history (bare h)) s result }
-        ensures fair { (h : List Happened) → ⟦<Watched<D> as Discipline>⟧.stands self.now h → HaveSlopes (classes_in self.now) → IsWithinBound result }
+        ensures gap { (h : List LabelledEvent) (s : Siblings) → (⟦<Watched<D> as Discipline>⟧.view self.now).represents h
+            → slice_get (rows (classes_in self.now)) row ≡ Some s
+            → IsReported (classes_in self.now) (hfsc_history (unlabelled h)) s result }
+        ensures fair { (h : List LabelledEvent) → (⟦<Watched<D> as Discipline>⟧.view self.now).represents h → HaveSlopes (classes_in self.now)
+            → IsWithinBound result }
     {
         self.watch.gap(row)
     }
@@ -70,16 +73,16 @@ impl<D: Discipline + Drop> Watched<D> {
     /// In each history that the value stands for every gap is within its bound, if the second slope of each link-sharing curve below the
     /// root is at least 1. A law: the function does nothing.
     pub fn keeps_bounds(&self)
-        ensures { (h : List Happened) → ⟦<Watched<D> as Discipline>⟧.stands self.now h → HaveSlopes (classes_in self.now) → (row : ℕ)
-            → IsWithinBound (option_map (gap_after (classes_in self.now) (hfsc_history (bare h))) (slice_get (rows (classes_in self.now)) row)) }
+        ensures { (h : List LabelledEvent) → (⟦<Watched<D> as Discipline>⟧.view self.now).represents h → HaveSlopes (classes_in self.now) → (row : ℕ)
+            → IsWithinBound (option_map (gap_after (classes_in self.now) (hfsc_history (unlabelled h))) (slice_get (rows (classes_in self.now)) row)) }
     {}
 
     /// The gaps of all pairs of siblings, in the order of their rows, over each history that the value stands for. The only error is
     /// want of memory.
     pub fn report(&self, alloc: Global) -> Result<Vec<Gap>, NoMemory>
         requires { length (classes_in self.now) ≤ 256 }
-        ensures { IfOk result (λ gaps. (h : List Happened) → ⟦<Watched<D> as Discipline>⟧.stands self.now h
-            → gaps.items ≡ gaps_after (classes_in self.now) (hfsc_history (bare h))) }
+        ensures { IfOk result (λ gaps. (h : List LabelledEvent) → (⟦<Watched<D> as Discipline>⟧.view self.now).represents h
+            → gaps.items ≡ gaps_after (classes_in self.now) (hfsc_history (unlabelled h))) }
     {
         let mut gaps = Vec::new(alloc);
         for row in 0..MOST_PAIRS {
@@ -91,7 +94,7 @@ impl<D: Discipline + Drop> Watched<D> {
         Ok(gaps)
     }
 
-    /// The classes that it watches. Takes no memory.
+    /// The classes that it watches. Does not allocate.
     pub fn classes(&self) -> &[HfscClass]
         ensures { result.now ≡ classes_in self.now }
     {
@@ -100,27 +103,22 @@ impl<D: Discipline + Drop> Watched<D> {
 }
 
 impl<D: Discipline + Drop> Discipline for Watched<D> {
-    ghost use Rattle.std.specs.Prelude.{max};
+    ghost use Rattle.std.specs.Prelude.{[], max};
     ghost use Rattle.share_report.specs.Watched.{BothStand};
     ghost use Rattle.std.proofs.Math.Nat.{max-le};
 
-    ghost lists = { λ d. D.lists d.inner };
-
-    ghost limits = { λ d. D.limits d.inner };
-
-    ghost stands = { λ d h. BothStand (D.stands d.inner) (D.policy d.inner) d.watch d.kept h };
-
-    ghost due = { λ d clock now. D.due d.inner clock now };
-
-    ghost policy = { λ d. D.policy d.inner };
-
-    ghost link_rate = { λ d. D.link_rate d.inner };
-
-    ghost given = { λ d. max (D.given d.inner) d.kept };
-
-    ghost moment = { λ d. D.moment d.inner };
-
-    ghost ended = { λ d. D.ended d.inner };
+    ghost view = { λ d. record {
+      policy = (D.view d.inner).policy;
+      limits = (D.view d.inner).limits;
+      link_rate = (D.view d.inner).link_rate;
+      fixed = [];
+      lists = (D.view d.inner).lists;
+      represents = λ h. BothStand (D.view d.inner).represents (D.view d.inner).policy d.watch d.kept h;
+      due = λ clock now. (D.view d.inner).due clock now;
+      given = max (D.view d.inner).given d.kept;
+      moment = (D.view d.inner).moment;
+      ended = (D.view d.inner).ended;
+    } };
 
     fn room(&self) -> u32 {
         self.inner.room()

@@ -1,7 +1,7 @@
 -- The lines of what was watched are those of the play.
 use Rattle.std.proofs.Common.{◌≡◌, ◌≤◌, ◌∙◌, ℕ, zero, suc, List, [], ◌∷◌, None, Some, Ok, Err, length, ap, arith, refl, subst, sym}
 use Rattle.std.specs.Prelude.{IsTrue, Option, option_map, slice_get}
-use Rattle.altq_model.specs.History.{Event, Happened, bare}
+use Rattle.altq_model.specs.History.{Event, LabelledEvent, unlabelled}
 use Rattle.altq_model.specs.Play.{Policy}
 use Rattle.service_curve.specs.declared.Curve.{Curve}
 use Rattle.conf_laws.specs.Fit.{IsCurveIfAny, IsHfscClass, IsInterface, IsOfKind}
@@ -20,7 +20,7 @@ use Rattle.hfsc_policy.specs.Events.{hfsc_history}
 use Rattle.interface_policy.specs.Classes.{hfsc_classes}
 use Rattle.interface_policy.specs.Policy.{answering_of, policy_by, policy_of}
 use Rattle.interface_policy.proofs.Trees.{class_tree}
-use Rattle.play_base.specs.View.{View, Any}
+use Rattle.play_base.specs.View.{View, Everything}
 use Rattle.play_base.proofs.ViewLaws.{keeps_refl}
 use Rattle.share_gaps.specs.declared.siblings.Siblings.{Siblings}
 use Rattle.share_gaps.specs.Rows.{rows}
@@ -114,13 +114,13 @@ pub no_lines : (i : Interface) (h : HfscHistory) → i.kind ≡ Cbq → AreLines
 no_lines i h e = record { lines = none_by i.kind i.classes h e; fair = λ f. not_both i.kind e f }
 
 -- the lines of a history of the same events are those of the play
-pub stood_lines : (stood : List Happened → Type 0) (a c : View) (n : Names) (seed : ℕ) (i : Interface) (text : List ℕ) → Accepts a n.config n.interface i
-    → IsTrue a.tells → HasStood stood a c n seed → ((h : List Happened) → stood h → AreLinesOf i (hfsc_history (bare h)) text) → HasLines a c n seed text
+pub stood_lines : (stood : List LabelledEvent → Type 0) (a c : View) (n : Names) (seed : ℕ) (i : Interface) (text : List ℕ) → Accepts a n.config n.interface i
+    → IsTrue a.tells → HasStood stood a c n seed → ((h : List LabelledEvent) → stood h → AreLinesOf i (hfsc_history (unlabelled h)) text) → HasLines a c n seed text
 stood_lines stood a c n seed i text accepted t x lines =
     let y = lines x.1.0 x.1.1 in
     let same = one_interface a n.config n.interface i x.0.accepted.interface (accepted t) x.0.accepted.configuration in
     let P : List Event → Type 0 = λ es. AreLinesOf i (hfsc_history es) text in
-    let Q : Interface → Type 0 = λ j. AreLinesOf j (hfsc_history (bare x.0.played.history)) text in
+    let Q : Interface → Type 0 = λ j. AreLinesOf j (hfsc_history (unlabelled x.0.played.history)) text in
     record { played = x.0; lines = subst Q same (subst P x.1.2 y) }
 
 -- of CBQ nothing is said
@@ -128,7 +128,7 @@ pub none_said : (a c : View) (n : Names) (seed : ℕ) (i : Interface) (text : Li
     → IsTrue a.tells → HasPlayed a c n seed → HasLines a c n seed text
 none_said a c n seed i text accepted e empty t x =
     let same = one_interface a n.config n.interface i x.accepted.interface (accepted t) x.accepted.configuration in
-    let h : HfscHistory = hfsc_history (bare x.played.history) in
+    let h : HfscHistory = hfsc_history (unlabelled x.played.history) in
     let P : List ℕ → Type 0 = λ ls. AreLinesOf i h ls in
     let Q : Interface → Type 0 = λ j. AreLinesOf j h text in
     record { played = x; lines = subst Q same (subst P (sym empty) (no_lines i h e)) }
@@ -141,7 +141,7 @@ lines_behind u a c n seed text s h t =
     let input : SameInput a u n = record { config = sym (s.read.keeps.bytes n.config tt); arrivals = sym (s.read.keeps.bytes n.arrivals tt) } in
     record {
       played = played_by a u c n seed input x.played;
-      lines = played_lines a u c n seed input x.played (λ i g. AreLinesOf i (hfsc_history (bare g)) text) x.lines;
+      lines = played_lines a u c n seed input x.played (λ i g. AreLinesOf i (hfsc_history (unlabelled g)) text) x.lines;
     }
 
 -- memory runs out while the lines are made
@@ -150,4 +150,4 @@ lines_memory a c n seed h = record { comes = tt; told = λ t q. memory_told a n 
 
 -- nothing was done
 pub unchanged_only : (v : View) → OnlySays v v
-unchanged_only v = record { keeps = keeps_refl Any Any v; none = λ f e. e }
+unchanged_only v = record { keeps = keeps_refl Everything Everything v; none = λ f e. e }

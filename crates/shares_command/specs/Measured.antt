@@ -1,6 +1,6 @@
 -- What a play that is done is measured to.
 use Rattle.std.specs.Prelude.{◌≡◌, ℕ, List, Ok, IsTrue}
-use Rattle.altq_model.specs.History.{bare}
+use Rattle.altq_model.specs.History.{unlabelled}
 use Rattle.conf_tree.specs.declared.interface.Interface.{Interface}
 use Rattle.conf_tree.specs.declared.interface.Kind.TheVariants.{Hfsc}
 use Rattle.hfsc_model.specs.Event.{HfscHistory}
@@ -21,7 +21,7 @@ pub record AreLinesOf (i : Interface) (h : HfscHistory) (text : List ℕ) : Type
 -- and the history is that of the play
 pub record HasLines (old new : View) (n : Names) (seed : ℕ) (text : List ℕ) : Type 0 where
   pub played : HasPlayed old new n seed
-  pub lines : AreLinesOf played.accepted.interface (hfsc_history (bare played.played.history)) text
+  pub lines : AreLinesOf played.accepted.interface (hfsc_history (unlabelled played.played.history)) text
 
 -- the play is done, and this is its text
 pub record MeasuresTo (old new : View) (n : Names) (seed : ℕ) (text : List ℕ) : Type 0 where

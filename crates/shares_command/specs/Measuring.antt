@@ -1,6 +1,6 @@
 -- How `shares` ends: as a play does, but for what is said of it.
 use Rattle.std.specs.Prelude.{◌≡◌, ◌++◌, ℕ, List, [], Ok, Err, IsTrue, option_map, slice_get}
-use Rattle.altq_model.specs.History.{Event, bare}
+use Rattle.altq_model.specs.History.{Event, unlabelled}
 use Rattle.conf_tree.specs.declared.class.Class.{Class}
 use Rattle.conf_tree.specs.declared.interface.Interface.{Interface}
 use Rattle.conf_tree.specs.declared.interface.Kind.{Kind}
@@ -42,8 +42,8 @@ pub record AreFair (cs : List HfscClass) (h : HfscHistory) : Type 0 where
 -- bound
 pub record HasMeasured (old new : View) (n : Names) (seed : ℕ) : Type 0 where
   pub played : HasPlayed old new n seed
-  pub said : new.said ≡ old.said ++ shares_text played.accepted.interface (bare played.played.history)
-  pub fair : played.accepted.interface.kind ≡ Hfsc → AreFair (hfsc_classes played.accepted.interface.classes) (hfsc_history (bare played.played.history))
+  pub said : new.said ≡ old.said ++ shares_text played.accepted.interface (unlabelled played.played.history)
+  pub fair : played.accepted.interface.kind ≡ Hfsc → AreFair (hfsc_classes played.accepted.interface.classes) (hfsc_history (unlabelled played.played.history))
 
 -- what done means: that, where the files tell; and no call met a fault
 pub record IsMeasured (old new : View) (n : Names) (seed : ℕ) : Type 0 where

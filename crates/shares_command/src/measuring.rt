@@ -1,6 +1,6 @@
 // Playing a capture, and measuring how fairly its link was shared.
 ghost use Rattle.std.specs.Prelude.{◌≡◌, ◌≤◌, [], ℕ, true, List, None, Some, Err, IfErr, IfOk, OnErr, OnOk, length, option_map, slice_get, string_bytes};
-ghost use Rattle.altq_model.specs.History.{Happened, bare};
+ghost use Rattle.altq_model.specs.History.{LabelledEvent, unlabelled};
 ghost use Rattle.command_base.specs.Configuration.{Accepts, IsConfigured};
 ghost use Rattle.command_base.specs.Names.{names_read};
 ghost use Rattle.conf_laws.specs.Fit.{IsInterface};
@@ -38,9 +38,9 @@ use std::alloc::Global;
 fn watched_of(alloc: Global, interface: &Interface) -> Result<Watched<Hfsc<AnyQueue>>, NoMemory>
     requires fit { IsInterface interface.now }
     requires kind { interface.now.kind ≡ kind.Hfsc }
-    ensures empty { IfOk result (λ d. ⟦<Watched<Hfsc<AnyQueue>> as Discipline>⟧.stands d []) }
-    ensures policy { IfOk result (λ d. ⟦<Watched<Hfsc<AnyQueue>> as Discipline>⟧.policy d ≡ policy_of interface.now) }
-    ensures rate { IfOk result (λ d. HasRate (⟦<Watched<Hfsc<AnyQueue>> as Discipline>⟧.link_rate d) interface.now.rate) }
+    ensures empty { IfOk result (λ d. (⟦<Watched<Hfsc<AnyQueue>> as Discipline>⟧.view d).represents []) }
+    ensures policy { IfOk result (λ d. (⟦<Watched<Hfsc<AnyQueue>> as Discipline>⟧.view d).policy ≡ policy_of interface.now) }
+    ensures rate { IfOk result (λ d. HasRate (⟦<Watched<Hfsc<AnyQueue>> as Discipline>⟧.view d).link_rate interface.now.rate) }
 {
     let classes = hfsc_classes(alloc, interface.classes.as_slice())?;
     let hfsc = hfsc_of(alloc, interface)?;
@@ -56,8 +56,8 @@ fn lines_of(
 ) -> Result<String, NoMemory>
     requires fit { IsInterface interface.now }
     requires kind { interface.now.kind ≡ kind.Hfsc }
-    ensures { IfOk result (λ text. (h : List Happened) → ⟦<Watched<Hfsc<AnyQueue>> as Discipline>⟧.stands watched.now h
-        → AreLinesOf interface.now (hfsc_history (bare h)) (string_bytes text)) }
+    ensures { IfOk result (λ text. (h : List LabelledEvent) → (⟦<Watched<Hfsc<AnyQueue>> as Discipline>⟧.view watched.now).represents h
+        → AreLinesOf interface.now (hfsc_history (unlabelled h)) (string_bytes text)) }
 {
     gaps_are_greatest();
     watched.keeps_bounds();

@@ -52,11 +52,11 @@ same_lengths place cs [] latest earlier = tt
 same_lengths place cs (r ∷ rs) latest earlier = (length-marked_frame _ earlier _, same_lengths place cs rs _ _)
 
 -- the records stand one behind the other in these bytes
-abbrev pub Held : List Record → List ℕ → Type 0
-Held [] bytes = Unit {0}
-Held (r ∷ rs) bytes =
+abbrev pub RecordsHeld : List Record → List ℕ → Type 0
+RecordsHeld [] bytes = Unit {0}
+RecordsHeld (r ∷ rs) bytes =
     (r.captured ≡ take (length r.captured) (drop 16 bytes)) × (16 + length r.captured ≤ length bytes)
-    × Held rs (drop (16 + length r.captured) bytes)
+    × RecordsHeld rs (drop (16 + length r.captured) bytes)
 
 captured_is : (form : Form) (bytes : List ℕ) (count at : ℕ) (x : Record) (n : ℕ) → step form bytes count at ≡ Next x n
     → (x.captured ≡ take (length x.captured) (drop (at + 16) bytes)) × (at + 16 + length x.captured ≤ length bytes)
@@ -67,7 +67,7 @@ captured_is form bytes count at x n h =
     let long : s.captured ≡ length x.captured = omega arith in
     (is.0 ∙ ap (λ (k : ℕ). take k (drop (at + 16) bytes)) long, omega arith)
 
-pub stand_held : (form : Form) (bytes : List ℕ) (rs : List Record) (count at : ℕ) → Stand form bytes count at rs → Held rs (drop at bytes)
+pub stand_held : (form : Form) (bytes : List ℕ) (rs : List Record) (count at : ℕ) → Stand form bytes count at rs → RecordsHeld rs (drop at bytes)
 stand_held form bytes [] count at h = tt
 stand_held form bytes (r ∷ rs) count at h =
     let is = captured_is form bytes count at r (at + 16 + length r.captured) h.0 in
@@ -76,24 +76,24 @@ stand_held form bytes (r ∷ rs) count at h =
     drop-drop (16 + length r.captured) at bytes ∙ ap (λ (k : ℕ). drop k bytes) (omega arith) in (
       is.0 ∙ ap (take (length r.captured)) (sym here),
       omega (arith, is.1, length-drop at bytes),
-      subst (Held rs) (sym behind) (stand_held form bytes rs (count + 1) (at + 16 + length r.captured) h.1),
+      subst (RecordsHeld rs) (sym behind) (stand_held form bytes rs (count + 1) (at + 16 + length r.captured) h.1),
     )
 
-held_from : (h : Header) (bytes : List ℕ) (rs : List Record) (last : Step) → ReadsFrom h bytes rs last → Held rs (drop 24 bytes)
+held_from : (h : Header) (bytes : List ℕ) (rs : List Record) (last : Step) → ReadsFrom h bytes rs last → RecordsHeld rs (drop 24 bytes)
 held_from (Formed form) bytes rs last r = stand_held form bytes rs 0 24 r.stand
-held_from (Unformed d) bytes rs last r = subst (λ (l : List Record). Held l (drop 24 bytes)) (sym r.0) tt
+held_from (Unformed d) bytes rs last r = subst (λ (l : List Record). RecordsHeld l (drop 24 bytes)) (sym r.0) tt
 
-pub held : (bytes : List ℕ) → Held (outcome bytes).records (drop 24 bytes)
+pub held : (bytes : List ℕ) → RecordsHeld (outcome bytes).records (drop 24 bytes)
 held bytes = held_from (header bytes) bytes (outcome bytes).records (outcome bytes).last (reads_outcome bytes)
 
-pub length-with_frames : (rs : List Record) (fs : List (List ℕ)) (bytes : List ℕ) → SameLengths rs fs → Held rs bytes
+pub length-with_frames : (rs : List Record) (fs : List (List ℕ)) (bytes : List ℕ) → SameLengths rs fs → RecordsHeld rs bytes
     → length (with_frames fs bytes) ≡ length bytes
 length-with_frames [] [] bytes s h = refl
 length-with_frames [] (f ∷ fs) bytes s h = absurd s
 length-with_frames (r ∷ rs) [] bytes s h = absurd s
 length-with_frames (r ∷ rs) (f ∷ fs) bytes s h =
     let behind : drop (16 + length r.captured) bytes ≡ drop (16 + length f) bytes = ap (λ (k : ℕ). drop (16 + k) bytes) (sym s.0) in
-    let rest = length-with_frames rs fs (drop (16 + length f) bytes) s.1 (subst (Held rs) behind h.2) in
+    let rest = length-with_frames rs fs (drop (16 + length f) bytes) s.1 (subst (RecordsHeld rs) behind h.2) in
     omega (
       arith,
       s.0,

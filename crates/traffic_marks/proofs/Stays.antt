@@ -17,7 +17,7 @@ use Rattle.traffic_meter.specs.History.{colour_after}
 use Rattle.traffic_meter.specs.Mark.{marked_tos}
 use Rattle.traffic_marks.specs.Laws.{AreAssured, KeepsOthers, is_conditioned, is_mark, may_change}
 use Rattle.traffic_marks.specs.Marked.{Conditioner, Conditioning, assured_class, frames, history, marked_frame, marked_frames, metered, rule_of, with_frames}
-use Rattle.traffic_marks.proofs.Lengths.{Held, held, length-marked_frame}
+use Rattle.traffic_marks.proofs.Lengths.{RecordsHeld, held, length-marked_frame}
 use Rattle.traffic_marks.proofs.Steps.{formed_whole}
 
 abbrev AreBytes : List ℕ → Type 0
@@ -110,7 +110,7 @@ arrival_of place latest r = record {
 }
 
 records_stay : (c : Conditioning) (rs : List Record) (latest : ℕ) (earlier : List Captured) (x : List ℕ) (k : ℕ)
-    → AreAssured c → AreBytes x → Held rs x → may_change c rs k ≡ false
+    → AreAssured c → AreBytes x → RecordsHeld rs x → may_change c rs k ≡ false
     → get_or (with_frames (marked_frames c.conditioners earlier (arrivals_from c.place latest rs)) x) k 0 ≡ get_or x k 0
 records_stay c [] latest earlier x k af bytes h none = refl
 records_stay c (r ∷ rs) latest earlier x k af bytes h none =
@@ -149,7 +149,7 @@ record Stays (c : Conditioning) (bytes : List ℕ) (rs : List Record) : Type 0 w
   pub others : (k : ℕ) → may_change c rs k ≡ false → get_or (replaced c bytes rs) (24 + k) 0 ≡ get_or bytes (24 + k) 0
 
 by_header : (h : Header) (c : Conditioning) (bytes : List ℕ) → header bytes ≡ h → AreAssured c → AreBytes bytes
-    → Held (outcome_from h bytes).records (drop 24 bytes) → Stays c bytes (outcome_from h bytes).records
+    → RecordsHeld (outcome_from h bytes).records (drop 24 bytes) → Stays c bytes (outcome_from h bytes).records
 by_header (Unformed d) c bytes e af are h =
     let same : take 24 bytes ++ drop 24 bytes ≡ bytes = take-append-drop 24 bytes in
     record { head = ap (take 24) same; others = λ k none. ap (λ (l : List ℕ). get_or l (24 + k) 0) same }

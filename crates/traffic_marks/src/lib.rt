@@ -5,9 +5,13 @@
 //! their meters. `mark` is its step: it marks one frame.
 #![tactic(auto)]
 
+mod capture_rows;
+mod colours;
 mod laws;
 mod marking;
 mod metering;
 
+pub use capture_rows::{worked_captures, worked_places};
+pub use colours::greatest_numbers;
 pub use laws::marks_alone_change;
 pub use marking::mark;

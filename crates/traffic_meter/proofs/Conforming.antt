@@ -7,7 +7,7 @@ use Rattle.traffic_meter.specs.declared.rule.MeterRule.TheVariants.{Single, Two}
 use Rattle.traffic_meter.specs.declared.rule.Colour.{Colour}
 use Rattle.traffic_meter.specs.declared.rule.Colour.TheVariants.{Green, Yellow, Red}
 use Rattle.traffic_meter.specs.Buckets.{Buckets, committed_rate, committed_burst, filled, paid}
-use Rattle.traffic_meter.specs.History.{Metered, buckets, colour_after, colour_of, latest, IsInOrder}
+use Rattle.traffic_meter.specs.History.{Metered, buckets, colour_after, colour_of, latest, ArrivalsAreInOrder}
 use Rattle.traffic_meter.specs.Conforming.{GreenConforms, PassedConforms, allowed, coloured, earliest, is_green, is_passed}
 use Rattle.traffic_meter.proofs.Buckets.{Pays, given_on, green_pays, single_pays, two_pays}
 
@@ -28,7 +28,7 @@ after_moment rule (a ∷ h) =
     paid_moment rule (colour_of rule (buckets rule h) a) (filled rule (buckets rule h) a.moment) (units a.len)
     ∙ filled_moment rule (buckets rule h) a.moment
 
-pub earliest_first : (a : Metered) (s h : List Metered) → IsInOrder (a ∷ s ++ h) → earliest (a ∷ s) ≤ a.moment
+pub earliest_first : (a : Metered) (s h : List Metered) → ArrivalsAreInOrder (a ∷ s ++ h) → earliest (a ∷ s) ≤ a.moment
 earliest_first a [] h order = omega arith
 earliest_first a (b ∷ s) h order =
     let rest = earliest_first b s h order.1 in
@@ -40,7 +40,7 @@ one_more mine rest left full was cap gap time all pays gains before sum = omega 
 
 -- what has paid in a stretch and what is left are at most the cap and what the rate gives in its time
 pub kept : (test : Colour → Bool) (rule : MeterRule) (held : Buckets → ℕ) (rate cap : ℕ) → Pays test rule held rate cap
-    → (a : Metered) (s h : List Metered) → IsInOrder (a ∷ s ++ h)
+    → (a : Metered) (s h : List Metered) → ArrivalsAreInOrder (a ∷ s ++ h)
     → coloured test rule (a ∷ s) h + held (buckets rule (a ∷ s ++ h)) ≤ cap + rate * (a.moment - earliest (a ∷ s))
 kept test rule held rate cap p a [] h order =
     let pays = p.pays (filled rule (buckets rule h) a.moment) (units a.len) in
@@ -58,14 +58,14 @@ kept test rule held rate cap p a (b ∷ s) h order =
     (given_on rate (earliest (b ∷ s)) b.moment a.moment (earliest_first b s h order.1) order.0)
 
 pub conforms : (test : Colour → Bool) (rule : MeterRule) (held : Buckets → ℕ) (rate burst : ℕ)
-    → Pays test rule held rate (units burst) → (s h : List Metered) → IsInOrder (s ++ h)
+    → Pays test rule held rate (units burst) → (s h : List Metered) → ArrivalsAreInOrder (s ++ h)
     → coloured test rule s h ≤ allowed rate burst s
 conforms test rule held rate burst p [] h order = omega arith
 conforms test rule held rate burst p (a ∷ s) h order =
     let all = kept test rule held rate (units burst) p a s h order in
     omega (arith, all)
 
-pub green : (rule : MeterRule) (s h : List Metered) → IsInOrder (s ++ h) → GreenConforms rule s h
+pub green : (rule : MeterRule) (s h : List Metered) → ArrivalsAreInOrder (s ++ h) → GreenConforms rule s h
 green rule = conforms is_green rule (λ b. b.committed) (committed_rate rule) (committed_burst rule) (green_pays rule)
 
 -- a green packet is one of the green and yellow ones
@@ -81,7 +81,7 @@ fewer_green rule (a ∷ s) h =
     let one = green_passes (colour_after rule (s ++ h) a) (units a.len) in
     omega (arith, one, rest)
 
-pub passed : (rule : MeterRule) (s h : List Metered) → IsInOrder (s ++ h) → PassedConforms rule s h
+pub passed : (rule : MeterRule) (s h : List Metered) → ArrivalsAreInOrder (s ++ h) → PassedConforms rule s h
 passed (Single cir cbs ebs af) s h order =
     conforms is_passed (Single cir cbs ebs af) (λ b. b.committed + b.other) cir (cbs + ebs) (single_pays cir cbs ebs af) s h order
 passed (Two pir pbs cir cbs af) s h order =

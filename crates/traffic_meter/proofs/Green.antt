@@ -7,7 +7,7 @@ use Rattle.traffic_meter.specs.declared.rule.MeterRule.{MeterRule}
 use Rattle.traffic_meter.specs.declared.rule.MeterRule.TheVariants.{Single, Two}
 use Rattle.traffic_meter.specs.declared.rule.Colour.TheVariants.{Green}
 use Rattle.traffic_meter.specs.Buckets.{Buckets, filled, paid}
-use Rattle.traffic_meter.specs.History.{Metered, buckets, latest, IsInOrder}
+use Rattle.traffic_meter.specs.History.{Metered, buckets, latest, ArrivalsAreInOrder}
 use Rattle.traffic_meter.specs.Conforming.{AreGreen, Conforms, GreenWhereConforming, allowed, amount, coloured, earliest, is_green}
 use Rattle.traffic_meter.proofs.Buckets.{given_on, single_colour, two_colour}
 use Rattle.traffic_meter.proofs.Conforming.{after_moment, earliest_first, green, passed}
@@ -20,9 +20,9 @@ pub record Stretch (rate burst level : ℕ) (h : List Metered) : Type 0 where
   pub is : h ≡ newest ∷ others ++ older
   pub told : level + amount (newest ∷ others) ≡ allowed rate burst (newest ∷ others)
 
-abbrev Told : (rate burst level : ℕ) → List Metered → Type 0
-Told rate burst level [] = level ≡ units burst
-Told rate burst level (a ∷ h) = Stretch rate burst level (a ∷ h)
+abbrev LevelStands : (rate burst level : ℕ) → List Metered → Type 0
+LevelStands rate burst level [] = level ≡ units burst
+LevelStands rate burst level (a ∷ h) = Stretch rate burst level (a ∷ h)
 
 -- the level at a moment
 abbrev level_at : (rate burst level : ℕ) → List Metered → (t : ℕ) → ℕ
@@ -43,11 +43,11 @@ alone rate burst level a h e =
     record { newest = a; others = []; older = h; is = refl; told = omega (arith, e, time) }
 
 -- the stretch before, and one packet more
-longer : (rate burst level next : ℕ) (a : Metered) (h : List Metered) → IsInOrder (a ∷ h) → Stretch rate burst level h
+longer : (rate burst level next : ℕ) (a : Metered) (h : List Metered) → ArrivalsAreInOrder (a ∷ h) → Stretch rate burst level h
     → next + units a.len ≡ level + rate * (a.moment - latest h) → Stretch rate burst next (a ∷ h)
 longer rate burst level next a h order s e =
-    let P : List Metered → Type 0 = IsInOrder in
-    let ordered : IsInOrder (s.newest ∷ s.others ++ s.older) = subst P s.is order.1 in
+    let P : List Metered → Type 0 = ArrivalsAreInOrder in
+    let ordered : ArrivalsAreInOrder (s.newest ∷ s.others ++ s.older) = subst P s.is order.1 in
     let last : latest h ≡ s.newest.moment = ap latest s.is in
     let gap = ap (λ t. rate * (a.moment - t)) last in
     let first = earliest_first s.newest s.others s.older ordered in
@@ -62,7 +62,7 @@ longer rate burst level next a h order s e =
     }
 
 told_by : (rate burst level next : ℕ) (a : Metered) (h : List Metered) (capped : Bool)
-    → nat_le (units burst) (level + rate * (a.moment - latest h)) ≡ capped → IsInOrder (a ∷ h) → Told rate burst level h
+    → nat_le (units burst) (level + rate * (a.moment - latest h)) ≡ capped → ArrivalsAreInOrder (a ∷ h) → LevelStands rate burst level h
     → next + units a.len ≡ level_at rate burst level h a.moment → Stretch rate burst next (a ∷ h)
 told_by rate burst level next a h true e order told is =
     let above : units burst ≤ level + rate * (a.moment - latest h) = grind (arith, nat_tests) in
@@ -73,19 +73,19 @@ told_by rate burst level next a (b ∷ h) false e order told is =
     longer rate burst level next a (b ∷ h) order told (omega arith)
 
 -- after one more packet that paid
-told_after : (rate burst level next : ℕ) (a : Metered) (h : List Metered) → IsInOrder (a ∷ h) → Told rate burst level h
-    → next + units a.len ≡ level_at rate burst level h a.moment → Told rate burst next (a ∷ h)
+told_after : (rate burst level next : ℕ) (a : Metered) (h : List Metered) → ArrivalsAreInOrder (a ∷ h) → LevelStands rate burst level h
+    → next + units a.len ≡ level_at rate burst level h a.moment → LevelStands rate burst next (a ∷ h)
 told_after rate burst level next a h =
     told_by rate burst level next a h (nat_le (units burst) (level + rate * (a.moment - latest h))) refl
 
-enough_by : (rate burst level : ℕ) (a : Metered) (h : List Metered) → IsInOrder (a ∷ h) → Told rate burst level h
+enough_by : (rate burst level : ℕ) (a : Metered) (h : List Metered) → ArrivalsAreInOrder (a ∷ h) → LevelStands rate burst level h
     → Conforms rate burst (a ∷ h) → units a.len ≤ level + rate * (a.moment - latest h)
 enough_by rate burst level a [] order told all =
     let one = all [] (a ∷ []) [] refl in
     omega (arith, told, one, one_alone rate burst a)
 enough_by rate burst level a (b ∷ h) order told all =
-    let P : List Metered → Type 0 = IsInOrder in
-    let ordered : IsInOrder (told.newest ∷ told.others ++ told.older) = subst P told.is order.1 in
+    let P : List Metered → Type 0 = ArrivalsAreInOrder in
+    let ordered : ArrivalsAreInOrder (told.newest ∷ told.others ++ told.older) = subst P told.is order.1 in
     let last : b.moment ≡ told.newest.moment = ap latest told.is in
     let gap = ap (λ t. rate * (a.moment - t)) last in
     let first = earliest_first told.newest told.others told.older ordered in
@@ -95,7 +95,7 @@ enough_by rate burst level a (b ∷ h) order told all =
     omega (arith, stretch, before, gap, sum)
 
 -- a packet finds enough where each stretch conforms
-enough : (rate burst level : ℕ) (a : Metered) (h : List Metered) → IsInOrder (a ∷ h) → Told rate burst level h
+enough : (rate burst level : ℕ) (a : Metered) (h : List Metered) → ArrivalsAreInOrder (a ∷ h) → LevelStands rate burst level h
     → Conforms rate burst (a ∷ h) → units a.len ≤ level_at rate burst level h a.moment
 enough rate burst level a h order told all =
     let one = all [] (a ∷ []) h refl in
@@ -132,8 +132,8 @@ two_gets U committed other false true e f k = absurd (grind (arith, nat_tests, k
 two_gets U committed other c false e f k = absurd (grind (arith, nat_tests, k.other))
 
 -- the level of the committed bucket of one rate, while all are green
-single_told : (cir cbs ebs af : ℕ) (h : List Metered) → IsInOrder h → AreGreen (Single cir cbs ebs af) h
-    → Told cir cbs (buckets (Single cir cbs ebs af) h).committed h
+single_told : (cir cbs ebs af : ℕ) (h : List Metered) → ArrivalsAreInOrder h → AreGreen (Single cir cbs ebs af) h
+    → LevelStands cir cbs (buckets (Single cir cbs ebs af) h).committed h
 single_told cir cbs ebs af [] order all = refl
 single_told cir cbs ebs af (a ∷ h) order all =
     let rule : MeterRule = Single cir cbs ebs af in
@@ -146,7 +146,7 @@ single_told cir cbs ebs af (a ∷ h) order all =
     told_after cir cbs before.committed (buckets rule (a ∷ h)).committed a h order (single_told cir cbs ebs af h order.1 all.1)
     (omega (arith, gap, some, left))
 
-single_green : (cir cbs ebs af : ℕ) (h : List Metered) → IsInOrder h → Conforms cir cbs h → AreGreen (Single cir cbs ebs af) h
+single_green : (cir cbs ebs af : ℕ) (h : List Metered) → ArrivalsAreInOrder h → Conforms cir cbs h → AreGreen (Single cir cbs ebs af) h
 single_green cir cbs ebs af [] order all = tt
 single_green cir cbs ebs af (a ∷ h) order all =
     let rule : MeterRule = Single cir cbs ebs af in
@@ -160,10 +160,10 @@ single_green cir cbs ebs af (a ∷ h) order all =
 
 -- the levels of both buckets of two rates, while all are green
 record BothTold (pir pbs cir cbs : ℕ) (b : Buckets) (h : List Metered) : Type 0 where
-  pub committed : Told cir cbs b.committed h
-  pub other : Told pir pbs b.other h
+  pub committed : LevelStands cir cbs b.committed h
+  pub other : LevelStands pir pbs b.other h
 
-two_told : (pir pbs cir cbs af : ℕ) (h : List Metered) → IsInOrder h → AreGreen (Two pir pbs cir cbs af) h
+two_told : (pir pbs cir cbs af : ℕ) (h : List Metered) → ArrivalsAreInOrder h → AreGreen (Two pir pbs cir cbs af) h
     → BothTold pir pbs cir cbs (buckets (Two pir pbs cir cbs af) h) h
 two_told pir pbs cir cbs af [] order all = record { committed = refl; other = refl }
 two_told pir pbs cir cbs af (a ∷ h) order all =
@@ -184,7 +184,7 @@ two_told pir pbs cir cbs af (a ∷ h) order all =
           (omega (arith, peak_gap, some.other, peak_left));
     }
 
-two_green : (pir pbs cir cbs af : ℕ) (h : List Metered) → IsInOrder h → Conforms cir cbs h → Conforms pir pbs h
+two_green : (pir pbs cir cbs af : ℕ) (h : List Metered) → ArrivalsAreInOrder h → Conforms cir cbs h → Conforms pir pbs h
     → AreGreen (Two pir pbs cir cbs af) h
 two_green pir pbs cir cbs af [] order all peak = tt
 two_green pir pbs cir cbs af (a ∷ h) order all peak =
@@ -208,7 +208,7 @@ older_green : (rule : MeterRule) (newer h : List Metered) → AreGreen rule (new
 older_green rule [] h all = all
 older_green rule (a ∷ newer) h all = older_green rule newer h all.1
 
-older_in_order : (newer h : List Metered) → IsInOrder (newer ++ h) → IsInOrder h
+older_in_order : (newer h : List Metered) → ArrivalsAreInOrder (newer ++ h) → ArrivalsAreInOrder h
 older_in_order [] h order = order
 older_in_order (a ∷ newer) h order = older_in_order newer h order.1
 
@@ -222,17 +222,17 @@ green_amount rule (a ∷ s) h all =
 
 -- a stretch of green packets conforms where the green packets of each stretch do
 stretches : (rule : MeterRule) (rate burst : ℕ)
-    → ((s older : List Metered) → IsInOrder (s ++ older) → coloured is_green rule s older ≤ allowed rate burst s)
-    → (h : List Metered) → IsInOrder h → AreGreen rule h → Conforms rate burst h
+    → ((s older : List Metered) → ArrivalsAreInOrder (s ++ older) → coloured is_green rule s older ≤ allowed rate burst s)
+    → (h : List Metered) → ArrivalsAreInOrder h → AreGreen rule h → Conforms rate burst h
 stretches rule rate burst each h order all = λ newer s older e.
-    let P : List Metered → Type 0 = IsInOrder in
+    let P : List Metered → Type 0 = ArrivalsAreInOrder in
     let Q : List Metered → Type 0 = AreGreen rule in
     let ordered = older_in_order newer (s ++ older) (subst P e order) in
     let are_green = older_green rule newer (s ++ older) (subst Q e all) in
     let bound = each s older ordered in
     omega (arith, bound, green_amount rule s older are_green)
 
-pub where_conforming : (rule : MeterRule) (h : List Metered) → IsInOrder h → GreenWhereConforming rule h
+pub where_conforming : (rule : MeterRule) (h : List Metered) → ArrivalsAreInOrder h → GreenWhereConforming rule h
 where_conforming (Single cir cbs ebs af) h order =
     (stretches (Single cir cbs ebs af) cir cbs (green (Single cir cbs ebs af)) h order, single_green cir cbs ebs af h order)
 where_conforming (Two pir pbs cir cbs af) h order =

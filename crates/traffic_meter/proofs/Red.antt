@@ -5,7 +5,7 @@ use Rattle.traffic_meter.specs.declared.rule.MeterRule.{MeterRule}
 use Rattle.traffic_meter.specs.declared.rule.MeterRule.TheVariants.{Single, Two}
 use Rattle.traffic_meter.specs.declared.rule.Colour.TheVariants.{Red}
 use Rattle.traffic_meter.specs.Buckets.{Buckets, filled, judged, paid}
-use Rattle.traffic_meter.specs.History.{Metered, buckets, colour_after, colours, latest, IsInOrder}
+use Rattle.traffic_meter.specs.History.{Metered, buckets, colour_after, colours, latest, ArrivalsAreInOrder}
 use Rattle.traffic_meter.specs.Conforming.{RedChangesNone}
 use Rattle.traffic_meter.proofs.Buckets.{given_on}
 use Rattle.traffic_meter.proofs.Conforming.{after_moment}
@@ -42,7 +42,7 @@ after_red : (rule : MeterRule) (a : Metered) (h : List Metered) → colour_after
 after_red rule a h red = ap (λ k. paid rule k (filled rule (buckets rule h) a.moment) (units a.len)) red
 
 -- from the red packet on, the buckets are the same at each moment
-same_filled : (rule : MeterRule) (newer : List Metered) (a : Metered) (h : List Metered) (t : ℕ) → IsInOrder (newer ++ a ∷ h)
+same_filled : (rule : MeterRule) (newer : List Metered) (a : Metered) (h : List Metered) (t : ℕ) → ArrivalsAreInOrder (newer ++ a ∷ h)
     → latest (newer ++ a ∷ h) ≤ t → colour_after rule h a ≡ Red
     → filled rule (buckets rule (newer ++ a ∷ h)) t ≡ filled rule (buckets rule (newer ++ h)) t
 same_filled rule [] a h t order late red =
@@ -53,7 +53,7 @@ same_filled rule (e ∷ newer) a h t order late red =
     let same = same_filled rule newer a h e.moment order.1 order.0 red in
     ap (λ f. filled rule (paid rule (judged rule f (units e.len)) f (units e.len)) t) same
 
-pub changes_none : (rule : MeterRule) (newer : List Metered) (a : Metered) (older : List Metered) → IsInOrder (newer ++ a ∷ older)
+pub changes_none : (rule : MeterRule) (newer : List Metered) (a : Metered) (older : List Metered) → ArrivalsAreInOrder (newer ++ a ∷ older)
     → RedChangesNone rule newer a older
 changes_none rule [] a h order = λ red. refl
 changes_none rule (e ∷ newer) a h order = λ red.

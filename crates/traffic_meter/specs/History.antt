@@ -38,15 +38,15 @@ latest [] = 0
 latest (a ∷ h) = a.moment
 
 -- no packet arrives before the one before it
-abbrev pub IsInOrder : List Metered → Type 0
-IsInOrder [] = Unit {0}
-IsInOrder (a ∷ h) = (latest h ≤ a.moment) × IsInOrder h
+abbrev pub ArrivalsAreInOrder : List Metered → Type 0
+ArrivalsAreInOrder [] = Unit {0}
+ArrivalsAreInOrder (a ∷ h) = (latest h ≤ a.moment) × ArrivalsAreInOrder h
 
 -- what contracts see of a meter
 pub record Metering : Type 0 where
   pub rule : MeterRule
   pub buckets : Buckets
 
-pub record StandsFor (m : Metering) (h : List Metered) : Type 0 where
+pub record Represents (m : Metering) (h : List Metered) : Type 0 where
   pub buckets : m.buckets ≡ buckets m.rule h
-  pub in_order : IsInOrder h
+  pub in_order : ArrivalsAreInOrder h

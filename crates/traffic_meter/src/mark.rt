@@ -16,7 +16,7 @@ fn drop_precedence(colour: Colour) -> u8
 }
 
 /// The code point of class `af` of assured forwarding, at most 4, with the drop precedence of a colour: AF11 is that of class 1 and
-/// green (RFC 2597). Constant time; takes no memory.
+/// green (RFC 2597). Constant time; does not allocate.
 pub fn code_point(af: u8, colour: Colour) -> u8
     requires { af ≤ 4 }
     ensures { result ≡ code_point af colour }
@@ -25,7 +25,7 @@ pub fn code_point(af: u8, colour: Colour) -> u8
 }
 
 /// A type of service or traffic class with that code point, and with the two low bits of `tos`, which are those of ECN. Constant
-/// time; takes no memory.
+/// time; does not allocate.
 pub fn marked_tos(af: u8, colour: Colour, tos: u8) -> u8
     requires { af ≤ 4 }
     ensures { result ≡ marked_tos af colour tos }

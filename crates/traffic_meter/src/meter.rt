@@ -2,7 +2,7 @@
 ghost use Rattle.std.specs.Prelude.{◌≡◌, ◌≤◌, ◌-◌, ◌*◌, ◌^◌, ◌∷◌, [], List};
 ghost use Rattle.play_base.specs.Units.{units};
 ghost use Rattle.traffic_meter.specs.Buckets.{filled, full, judged, paid};
-ghost use Rattle.traffic_meter.specs.History.{Metered, StandsFor, after, colour_after, colour_of};
+ghost use Rattle.traffic_meter.specs.History.{Metered, Represents, after, colour_after, colour_of};
 
 use crate::rule::{Colour, MeterRule};
 use play_base::units;
@@ -43,11 +43,11 @@ fn given(rate: u64, gap: u64) -> u128
 }
 
 impl Meter {
-    /// A meter of a rule, with full buckets, that was asked for no packet. Takes no memory; constant time.
+    /// A meter of a rule, with full buckets, that was asked for no packet. Does not allocate; constant time.
     pub fn new(rule: &MeterRule) -> Meter
         ensures rule { result.rule ≡ rule.now }
         ensures buckets { result.buckets ≡ full rule.now }
-        ensures history { StandsFor result [] }
+        ensures history { Represents result [] }
     {
         let (cbs, other) = match *rule {
             MeterRule::Single { cbs, ebs, .. } => (cbs, ebs),
@@ -61,7 +61,7 @@ impl Meter {
         }
     }
 
-    /// The rule of the meter, which no call changes. Constant time; takes no memory.
+    /// The rule of the meter, which no call changes. Constant time; does not allocate.
     pub fn rule(&self) -> &MeterRule
         ensures { result.now ≡ self.now.rule }
     {
@@ -131,17 +131,17 @@ impl Meter {
     }
 
     /// The colour of a packet of `len` bytes that arrives at `moment`, in nanoseconds, not before the packet before. Two packets may
-    /// arrive at one moment. Each length and each moment has an answer. Constant time; takes no memory.
+    /// arrive at one moment. Each length and each moment has an answer. Constant time; does not allocate.
     pub fn colour(&mut self, moment: u64, len: u32) -> Colour
         requires in_order { self.old.buckets.moment ≤ moment }
         ensures rule { self.new.rule ≡ self.old.rule }
         ensures colour { result ≡ colour_of self.old.rule self.old.buckets (record { moment = moment; len = len }) }
         ensures buckets { self.new.buckets ≡ after self.old.rule self.old.buckets (record { moment = moment; len = len }) }
         ensures moment { self.new.buckets.moment ≡ moment }
-        ensures history_colour { (h : List Metered) → StandsFor self.old h
+        ensures history_colour { (h : List Metered) → Represents self.old h
             → result ≡ colour_after self.old.rule h (record { moment = moment; len = len }) }
-        ensures history { (h : List Metered) → StandsFor self.old h
-            → StandsFor self.new (record { moment = moment; len = len } ∷ h) }
+        ensures history { (h : List Metered) → Represents self.old h
+            → Represents self.new (record { moment = moment; len = len } ∷ h) }
     {
         self.fill(moment);
         let amount = units(u64::from(len));

@@ -13,7 +13,7 @@ use Rattle.marked_files.proofs.ViewLaws.{left_self, told_is}
 use Rattle.pcap_files.specs.declared.fault.CaptureFault.{CaptureFault}
 use Rattle.pcap_files.specs.declared.fault.CaptureFault.TheVariants as fault
 use Rattle.pcapng_files.specs.Fronts.{with_front}
-use Rattle.play_base.specs.View.{View, Any, Keeps, NoneAppears, Opened, ReadFault}
+use Rattle.play_base.specs.View.{View, Everything, Keeps, NoneAppears, Opened, ReadFault}
 use Rattle.play_base.proofs.ViewLaws.{keeps_trans, opened_then, rose_later}
 use Rattle.early_stops.specs.Arriving.{OnlyOpens, given_failure}
 use Rattle.verify_command.specs.Input.{ArrivalCauses, HoldsCapture, capture_failure}
@@ -22,19 +22,19 @@ use Rattle.verify_command.proofs.LeaveLemmas.{opens_then}
 
 -- some of a file was read, and nothing else happened
 pub record Ran (b c : View) (file : ℕ) : Type 0 where
-  pub keeps : Keeps Any (λ f. f ≢ file) b c
+  pub keeps : Keeps Everything (λ f. f ≢ file) b c
   pub none : NoneAppears b c
   pub said : c.said ≡ b.said
 
 pub ran_then : (b c d : View) (file : ℕ) → Ran b c file → Ran c d file → Ran b d file
 ran_then b c d file x y = record {
-  keeps = keeps_trans Any (λ f. f ≢ file) b c d x.keeps y.keeps;
+  keeps = keeps_trans Everything (λ f. f ≢ file) b c d x.keeps y.keeps;
   none = λ f h. y.none f (x.none f h);
   said = y.said ∙ x.said;
 }
 
-pub ran_keeps : (a b c : View) (name : List ℕ) (file : ℕ) → Opened a b 2 name file → Ran b c file → Keeps Any Any a c
-ran_keeps a b c name file x y = opened_then Any a b c 2 name file x y.keeps
+pub ran_keeps : (a b c : View) (name : List ℕ) (file : ℕ) → Opened a b 2 name file → Ran b c file → Keeps Everything Everything a c
+ran_keeps a b c name file x y = opened_then Everything a b c 2 name file x y.keeps
 
 pub ran_opens : (a b c : View) (name : List ℕ) (file : ℕ) → Opened a b 2 name file → Ran b c file → OnlyOpens a c 2
 ran_opens a b c name file x y = opens_then a b c 2 name file x y.none y.keeps

@@ -14,7 +14,7 @@ use Rattle.input_files.specs.Records.{Shown, shown_of}
 use Rattle.interface_policy.specs.Policy.{queue_names}
 use Rattle.pcapng_files.specs.declared.fault.NgFault.{NgFault}
 use Rattle.pcapng_files.specs.declared.fault.NgFault.TheVariants as ng
-use Rattle.play_base.specs.View.{View, Any, Keeps, Rose, SameCounts}
+use Rattle.play_base.specs.View.{View, Everything, Keeps, Rose, SameCounts}
 use Rattle.play_base.proofs.ViewLaws.{rose_later, same_trans}
 use Rattle.command_base.specs.Configuration.{Accepts, Configures}
 use Rattle.command_base.specs.Faults.{CannotRead}
@@ -37,21 +37,21 @@ use Rattle.verify_command.specs.Saying.{SaysBy}
 use Rattle.verify_command.specs.Verifying.{AreBroken, AreGiven, Arrive, EndsWith, ExceedLimits, HasDepartures, Holds, Inputs, IsVerified, VerifyFails, VerifyComes}
 
 -- what is told of a later view is told of an earlier one
-tells_since : (u v : View) → Keeps Any Any u v → IsTrue u.tells → IsTrue v.tells
+tells_since : (u v : View) → Keeps Everything Everything u v → IsTrue u.tells → IsTrue v.tells
 tells_since u v k t = k.tells ∙ t
 
-cannot_since : (u v w : View) (part : ℕ) (name : List ℕ) → Keeps Any Any u v → CannotRead v w part name → CannotRead u w part name
+cannot_since : (u v w : View) (part : ℕ) (name : List ℕ) → Keeps Everything Everything u v → CannotRead v w part name → CannotRead u w part name
 cannot_since u v w part name k (inl r) = inl (rose_later _ _ _ (k.later.read part) r)
 cannot_since u v w part name k (inr a) = inr (sym k.tells ∙ a.0, sym (k.bytes name tt) ∙ a.1)
 
-long_since : (u v : View) (name : List ℕ) → Keeps Any Any u v → IsLong v name → IsLong u name
+long_since : (u v : View) (name : List ℕ) → Keeps Everything Everything u v → IsLong v name → IsLong u name
 long_since u v name k x = record { bytes = x.bytes; at = sym (k.bytes name tt) ∙ x.at; long = x.long }
 
-held_since : (u v : View) (i : Interface) (name : List ℕ) (records : List Record) (last : Step) → Keeps Any Any u v → HasRecords v i name records last
+held_since : (u v : View) (i : Interface) (name : List ℕ) (records : List Record) (last : Step) → Keeps Everything Everything u v → HasRecords v i name records last
     → HasRecords u i name records last
 held_since u v i name records last k x = record { given = x.given; at = sym (k.bytes name tt) ∙ x.at; capture = x.capture; read = x.read; reads = x.reads }
 
-broken_since : (u v : View) (name : List ℕ) (f : NgFault) → Keeps Any Any u v → IsNoPcapng v name f → IsNoPcapng u name f
+broken_since : (u v : View) (name : List ℕ) (f : NgFault) → Keeps Everything Everything u v → IsNoPcapng v name f → IsNoPcapng u name f
 broken_since u v name f k x = record { given = x.given; at = sym (k.bytes name tt) ∙ x.at; begins = x.begins; cause = x.cause }
 
 -- the configuration cannot be used
@@ -62,7 +62,7 @@ config_fails u v n conf.Read x = (x, λ t. tt)
 config_fails u v n conf.NoMemory x = tt
 
 -- the arrivals are no capture
-arrive_at : (u v : View) (n : Inputs) (found : Interface) (last : Step) → Keeps Any Any u v → Configures u n.config n.interface found
+arrive_at : (u v : View) (n : Inputs) (found : Interface) (last : Step) → Keeps Everything Everything u v → Configures u n.config n.interface found
     → StopsAt v found n.arrivals last → EndsWith u n last
 arrive_at u v n found last k a x = record {
   found = found;
@@ -70,16 +70,16 @@ arrive_at u v n found last k a x = record {
   arrive = record { configures = a; held = held_since u v found n.arrivals x.0 last k x.1 };
 }
 
-broken_at : (u v : View) (n : Inputs) (found : Interface) (f : NgFault) → Keeps Any Any u v → Configures u n.config n.interface found
+broken_at : (u v : View) (n : Inputs) (found : Interface) (f : NgFault) → Keeps Everything Everything u v → Configures u n.config n.interface found
     → IsNoPcapng v n.arrivals f → AreBroken u n f
 broken_at u v n found f k a x = record { interface = (found, a); arrivals = broken_since u v n.arrivals f k x }
 
-beyond_at : (u v : View) (n : Inputs) (found : Interface) → Keeps Any Any u v → Configures u n.config n.interface found
+beyond_at : (u v : View) (n : Inputs) (found : Interface) → Keeps Everything Everything u v → Configures u n.config n.interface found
     → StopsAt v found n.arrivals Limit ⊎ IsNoPcapng v n.arrivals ng.Limit → ExceedLimits u n
 beyond_at u v n found k a (inl x) = inl (arrive_at u v n found Limit k a x)
 beyond_at u v n found k a (inr x) = inr (broken_at u v n found ng.Limit k a x)
 
-pub arrivals_fail : (u v w : View) (n : Inputs) (found : Interface) (f : Failure) → Keeps Any Any u v → Accepts u n.config n.interface found
+pub arrivals_fail : (u v w : View) (n : Inputs) (found : Interface) (f : Failure) → Keeps Everything Everything u v → Accepts u n.config n.interface found
     → ArrivalCauses v w found n.arrivals f → VerifyFails u w n f
 arrivals_fail u v w n found (failure.Words fault) k a x = absurd x
 arrivals_fail u v w n found (failure.Configuration place) k a x = absurd x
@@ -105,7 +105,7 @@ pub record HasRead (u : View) (n : Inputs) (found : Interface) (answers : List S
   pub arrive : Arrive u n found records End
   pub shown : answers ≡ map shown_of records
 
-pub has_read : (u v : View) (n : Inputs) (found : Interface) (answers : List Shown) → Keeps Any Any u v → Accepts u n.config n.interface found
+pub has_read : (u v : View) (n : Inputs) (found : Interface) (answers : List Shown) → Keeps Everything Everything u v → Accepts u n.config n.interface found
     → (IsTrue v.tells → HoldsCapture v found n.arrivals answers) → IsTrue u.tells → HasRead u n found answers
 has_read u v n found answers k a x t =
     let y = x (tells_since u v k t) in
@@ -118,11 +118,11 @@ has_read u v n found answers k a x t =
 read_ends : (u : View) (n : Inputs) (found : Interface) (answers : List Shown) → HasRead u n found answers → EndsWith u n End
 read_ends u n found answers x = record { found = found; records = x.records; arrive = x.arrive }
 
-pub holds : (u v : View) (name bytes : List ℕ) → Keeps Any Any u v → (IsTrue v.tells → v.bytes name ≡ Some bytes) → length bytes ≤ 2 ^ 30 → IsTrue u.tells → Holds u name bytes
+pub holds : (u v : View) (name bytes : List ℕ) → Keeps Everything Everything u v → (IsTrue v.tells → v.bytes name ≡ Some bytes) → length bytes ≤ 2 ^ 30 → IsTrue u.tells → Holds u name bytes
 holds u v name bytes k x short t = record { at = sym (k.bytes name tt) ∙ x (tells_since u v k t); short = short }
 
 -- the departures are not had
-pub departures_fail : (u v w : View) (n : Inputs) (found : Interface) (answers : List Shown) (f : InputFault) → Keeps Any Any u v
+pub departures_fail : (u v w : View) (n : Inputs) (found : Interface) (answers : List Shown) (f : InputFault) → Keeps Everything Everything u v
     → (IsTrue u.tells → HasRead u n found answers) → InputCauses v w 3 n.departures f → VerifyFails u w n (departures_failure f)
 departures_fail u v w n found answers input.TooLong k r x = λ t. record {
   arrivals = read_ends u n found answers (r t);
@@ -136,7 +136,7 @@ has_departures : (u : View) (n : Inputs) (found : Interface) (answers : List Sho
 has_departures u n found answers departures r h = record { arrivals = read_ends u n found answers r; bytes = departures; departures = h }
 
 -- the fates are not had
-pub fates_fail : (u v w : View) (n : Inputs) (found : Interface) (answers : List Shown) (departures : List ℕ) (f : InputFault) → Keeps Any Any u v
+pub fates_fail : (u v w : View) (n : Inputs) (found : Interface) (answers : List Shown) (departures : List ℕ) (f : InputFault) → Keeps Everything Everything u v
     → (IsTrue u.tells → HasRead u n found answers) → (IsTrue u.tells → Holds u n.departures departures) → InputCauses v w 4 n.fates f
     → VerifyFails u w n (fates_failure f)
 fates_fail u v w n found answers departures input.TooLong k r d x = λ t. record {
@@ -164,7 +164,7 @@ are_given u n found answers departures fates h = record {
   fates = record { at = h.fates_had.at; short = h.fates_had.short };
 }
 
-pub had_fates : (u v : View) (found : Interface) (name : List ℕ) (fates : Fates) → Keeps Any Any u v → (IsTrue v.tells → HoldsFates v found name fates)
+pub had_fates : (u v : View) (found : Interface) (name : List ℕ) (fates : Fates) → Keeps Everything Everything u v → (IsTrue v.tells → HoldsFates v found name fates)
     → IsTrue u.tells → HoldsFates u found name fates
 had_fates u v found name fates k x t =
     let y = x (tells_since u v k t) in
@@ -197,7 +197,7 @@ is_verified u n found answers departures fates late h x = record {
 }
 
 -- the answer is printed, or not
-unsaid_comes : (u v w : View) (n : Inputs) (f : Failure) → Keeps Any Any u v → (IsTrue u.tells → IsVerified u n)
+unsaid_comes : (u v w : View) (n : Inputs) (f : Failure) → Keeps Everything Everything u v → (IsTrue u.tells → IsVerified u n)
     → (f ≡ failure.NoMemory) ⊎ ((f ≡ failure.Write written.Answer) × Rose (v.write_faults 0) (w.write_faults 0)) → VerifyFails u w n f
 unsaid_comes u v w n f k verified (inl e) = let P : Failure → Type 0 = λ x. VerifyFails u w n x in subst P (sym e) tt
 unsaid_comes u v w n f k verified (inr e) =
@@ -205,7 +205,7 @@ unsaid_comes u v w n f k verified (inr e) =
     subst P (sym e.0) (rose_later _ _ _ (k.later.write 0) e.1, verified)
 
 pub says_comes : (u v w : View) (n : Inputs) (found : Interface) (answers : List Shown) (departures : List ℕ) (fates : Fates) (late : List Late) (o : Outcome)
-    → Keeps Any Any u v → v.said ≡ u.said → SameCounts u v → (IsTrue u.tells → AreHad u n found answers departures fates)
+    → Keeps Everything Everything u v → v.said ≡ u.said → SameCounts u v → (IsTrue u.tells → AreHad u n found answers departures fates)
     → AreJudged found answers departures fates (λ g. AreVerified g late) → SaysBy v w (verdict_text found late) o → VerifyComes u w n o
 says_comes u v w n found answers departures fates late (Ok d) k silent counts h x s =
     let P : Done → Type 0 = λ y. VerifyComes u w n (Ok y) in

@@ -1,7 +1,7 @@
 -- What is told of a verification: the message behind it, and a want of memory before it.
 use Rattle.std.proofs.Common.{◌≡◌, ◌⊎◌, Ok, Err, sym, subst, refl, inl, inr}
 use Rattle.std.specs.Prelude.{OnErr}
-use Rattle.play_base.specs.View.{View, Any}
+use Rattle.play_base.specs.View.{View, Everything}
 use Rattle.command_base.specs.Outcome.{Outcome, read_number}
 use Rattle.command_base.specs.Telling.{Ends, IsTold, OnlySays}
 use Rattle.command_base.specs.declared.failure.Failure.{Failure}
@@ -57,7 +57,7 @@ verify_told u v w n (Ok d) s h silent told =
 verify_told u v w n (Err f) s h silent told = record {
   outcome = Err told.told;
   ends = ends_after u v w n f told.told told.only h told.same;
-  printed = message_behind Any Any u v w told.told h.leaves.keeps silent told.message;
+  printed = message_behind Everything Everything u v w told.told h.leaves.keeps silent told.message;
   status = told.status;
 }
 

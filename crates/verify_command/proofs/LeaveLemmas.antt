@@ -2,7 +2,7 @@
 use Rattle.std.proofs.Common.{◌≡◌, ◌≤◌, ◌∙◌, ◌⊎◌, inl, inr, ℕ, List, None, Some, Err, sym, subst, arith}
 use Rattle.std.specs.Prelude.{◌≢◌}
 use Rattle.conf_laws.specs.Laws.{ConfigurationsFit}
-use Rattle.play_base.specs.View.{View, Any, Keeps, NoneAppears, Opened, SameCounts}
+use Rattle.play_base.specs.View.{View, Everything, Keeps, NoneAppears, Opened, SameCounts}
 use Rattle.play_base.proofs.ViewLaws.{keeps_trans, opened_then, same_trans}
 use Rattle.command_base.specs.Input.{EndsAtConfig}
 use Rattle.command_base.specs.Telling.{OnlySays}
@@ -22,7 +22,7 @@ leaves_conf u v n x = record {
 }
 
 -- of a file that came to be: it did now, or before
-new_or_old : (u v w : View) (part f p : ℕ) → OnlyOpens v w part → Keeps Any Any v w → w.part f ≡ Some p
+new_or_old : (u v w : View) (part f p : ℕ) → OnlyOpens v w part → Keeps Everything Everything v w → w.part f ≡ Some p
     → (v.part f ≡ None) ⊎ ((q : ℕ) × (v.part f ≡ Some q)) → (p ≡ part) ⊎ (v.part f ≡ Some p)
 new_or_old u v w part f p o k e (inl none) = inl (o f p none e)
 new_or_old u v w part f p o k e (inr old) =
@@ -40,7 +40,7 @@ config_by v part f some (inl e) = absurd (omega (arith, e))
 config_by v part f some (inr e) = e
 
 -- one more file is read
-pub leaves_more : (u v w : View) (n : Inputs) (part : ℕ) → 2 ≤ part → part ≤ 4 → VerifyLeaves u v n → Keeps Any Any v w → OnlyOpens v w part → VerifyLeaves u w n
+pub leaves_more : (u v w : View) (n : Inputs) (part : ℕ) → 2 ≤ part → part ≤ 4 → VerifyLeaves u v n → Keeps Everything Everything v w → OnlyOpens v w part → VerifyLeaves u w n
 leaves_more u v w n part some few x k o = record {
   keeps = keeps_trans _ _ u v w x.keeps k;
   parts = λ f p fresh e. parts_by u v n part f p (omega arith) few x fresh (new_or_old u v w part f p o k e (there_or_not (v.part f)));
@@ -59,13 +59,13 @@ leaves_said u v w n x o = record {
 }
 
 -- a file was opened, and some of it was read
-pub opens_then : (a b c : View) (part : ℕ) (name : List ℕ) (file : ℕ) → Opened a b part name file → NoneAppears b c → Keeps Any (λ f. f ≢ file) b c → OnlyOpens a c part
+pub opens_then : (a b c : View) (part : ℕ) (name : List ℕ) (file : ℕ) → Opened a b part name file → NoneAppears b c → Keeps Everything (λ f. f ≢ file) b c → OnlyOpens a c part
 opens_then a b c part name file x none k = λ f p fresh e.
     let at : b.part f ≡ Some p = there_then b c f p none k.part e (there_or_not (b.part f)) in
     (new_part a b part name file f p x.is_new fresh at).0
 
-pub keeps_then : (a b c : View) (part : ℕ) (name : List ℕ) (file : ℕ) → Opened a b part name file → TookSome b c file → Keeps Any Any a c
-keeps_then a b c part name file x y = opened_then Any a b c part name file x y.1.keeps
+pub keeps_then : (a b c : View) (part : ℕ) (name : List ℕ) (file : ℕ) → Opened a b part name file → TookSome b c file → Keeps Everything Everything a c
+keeps_then a b c part name file x y = opened_then Everything a b c part name file x y.1.keeps
 
 pub said_then : (a b c : View) (part : ℕ) (name : List ℕ) (file : ℕ) → Opened a b part name file → TookSome b c file → c.said ≡ a.said
 said_then a b c part name file x y = y.1.said ∙ x.is_new.said
@@ -82,7 +82,7 @@ pub record IsPassed (u v : View) (n : Inputs) : Type 0 where
 pub reached_conf : (u v : View) (n : Inputs) → EndsAtConfig u v n.config → v.said ≡ u.said → SameCounts u v → IsPassed u v n
 reached_conf u v n x silent counts = record { leaves = leaves_conf u v n x; silent = silent; counts = counts }
 
-pub reached_more : (u v w : View) (n : Inputs) (part : ℕ) → 2 ≤ part → part ≤ 4 → IsPassed u v n → Keeps Any Any v w → OnlyOpens v w part → w.said ≡ v.said
+pub reached_more : (u v w : View) (n : Inputs) (part : ℕ) → 2 ≤ part → part ≤ 4 → IsPassed u v n → Keeps Everything Everything v w → OnlyOpens v w part → w.said ≡ v.said
     → SameCounts v w → IsPassed u w n
 reached_more u v w n part some few x k o silent counts = record {
   leaves = leaves_more u v w n part some few x.leaves k o;
@@ -94,6 +94,6 @@ reached_more u v w n part some few x k o silent counts = record {
 pub fails_at : (fit : ConfigurationsFit) (u v : View) (n : Inputs) (f : Failure) → VerifyLeaves u v n → VerifyFails u v n f → VerifyEnds u v n (Err f)
 fails_at fit u v n f leaves fails = record { comes = fails; told = λ t q. told fit u v n (Err f) fails t q; leaves = leaves }
 
-pub fails_more : (fit : ConfigurationsFit) (u v w : View) (n : Inputs) (part : ℕ) (f : Failure) → 2 ≤ part → part ≤ 4 → IsPassed u v n → Keeps Any Any v w
+pub fails_more : (fit : ConfigurationsFit) (u v w : View) (n : Inputs) (part : ℕ) (f : Failure) → 2 ≤ part → part ≤ 4 → IsPassed u v n → Keeps Everything Everything v w
     → OnlyOpens v w part → VerifyFails u w n f → VerifyEnds u w n (Err f)
 fails_more fit u v w n part f some few x k o fails = fails_at fit u w n f (leaves_more u v w n part some few x.leaves k o) fails

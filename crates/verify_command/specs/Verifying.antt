@@ -11,7 +11,7 @@ use Rattle.file_tests.specs.declared.Test.{Test}
 use Rattle.pcapng_files.specs.declared.fault.NgFault.{NgFault}
 use Rattle.pcapng_files.specs.declared.fault.NgFault.TheVariants as ng
 use Rattle.pcapng_model.specs.declared.fault.NgPlace.{NgPlace}
-use Rattle.play_base.specs.View.{View, Any, Keeps, SameCounts}
+use Rattle.play_base.specs.View.{View, Everything, Keeps, SameCounts}
 use Rattle.play_words.specs.declared.words.VerifyWords.{VerifyWords}
 use Rattle.command_base.specs.Configuration.{Configures, Refused, Says, TooLong}
 use Rattle.command_base.specs.Faults.{CannotRead, IsQuiet, WriteFailed}
@@ -170,7 +170,7 @@ pub record VerifyIsTold (old : View) (n : Inputs) (o : Outcome) : Type 0 where
 
 -- no more was done than to read: no name changes its bytes, nothing is created, and only these files are opened
 pub record VerifyLeaves (old new : View) (n : Inputs) : Type 0 where
-  pub keeps : Keeps Any Any old new
+  pub keeps : Keeps Everything Everything old new
   pub parts : (f p : ℕ) → old.part f ≡ None → new.part f ≡ Some p → (1 ≤ p) × (p ≤ 4)
   pub few : TakesFew old new n.config
 

@@ -7,7 +7,7 @@ ghost use Rattle.interface_marks.specs.Conditioners.{marked_in};
 ghost use Rattle.marked_files.specs.Markings.{given};
 ghost use Rattle.marked_files.specs.Taking.{holds};
 ghost use Rattle.pcapng_files.specs.Fronts.{with_front};
-ghost use Rattle.play_base.specs.View.{Any, Keeps, NoneAppears, ReadFault, SameCounts};
+ghost use Rattle.play_base.specs.View.{Everything, Keeps, NoneAppears, ReadFault, SameCounts};
 ghost use Rattle.early_stops.specs.Arriving.{OnlyOpens, given_failure};
 ghost use Rattle.verify_command.specs.Input.{ArrivalCauses, HoldsCapture, capture_failure};
 
@@ -51,7 +51,7 @@ fn marked_records<F: Files>(
     ensures fault { IfErr result (λ fault. IsTrue (F.view files.old).tells → (bytes : List ℕ) → (F.view files.old).left file ≡ Some bytes
         → HasFault (given placed_by marker.old bytes) fault) }
     ensures read { IsErrOf result CaptureFault.Read → ReadFault (F.view files.old) (F.view files.new) file }
-    ensures keeps { Keeps Any (λ f. f ≢ file) (F.view files.old) (F.view files.new) }
+    ensures keeps { Keeps Everything (λ f. f ≢ file) (F.view files.old) (F.view files.new) }
     ensures none { NoneAppears (F.view files.old) (F.view files.new) }
     ensures said { (F.view files.new).said ≡ (F.view files.old).said }
     ensures no_fault { OnOk result (SameCounts (F.view files.old) (F.view files.new)) }
@@ -80,7 +80,7 @@ fn shown_records<F: Files>(
     ensures fault { IfErr result (λ fault. IsTrue (F.view files.old).tells → (bytes : List ℕ) → (F.view files.old).left file ≡ Some bytes
         → HasFault (marked_in interface.now bytes) fault) }
     ensures read { IsErrOf result CaptureFault.Read → ReadFault (F.view files.old) (F.view files.new) file }
-    ensures keeps { Keeps Any (λ f. f ≢ file) (F.view files.old) (F.view files.new) }
+    ensures keeps { Keeps Everything (λ f. f ≢ file) (F.view files.old) (F.view files.new) }
     ensures none { NoneAppears (F.view files.old) (F.view files.new) }
     ensures said { (F.view files.new).said ≡ (F.view files.old).said }
     ensures no_fault { OnOk result (SameCounts (F.view files.old) (F.view files.new)) }
@@ -114,7 +114,7 @@ fn records_behind<F: Files>(
     ensures fault { IfErr result (λ fault. IsTrue (F.view files.old).tells → (bytes : List ℕ)
         → with_front true rest front.now ((F.view files.old).left file) ≡ Some bytes → HasFault (marked_in interface.now bytes) fault) }
     ensures read { IsErrOf result CaptureFault.Read → ReadFault (F.view files.old) (F.view files.new) file }
-    ensures keeps { Keeps Any (λ f. f ≢ file) (F.view files.old) (F.view files.new) }
+    ensures keeps { Keeps Everything (λ f. f ≢ file) (F.view files.old) (F.view files.new) }
     ensures none { NoneAppears (F.view files.old) (F.view files.new) }
     ensures said { (F.view files.new).said ≡ (F.view files.old).said }
     ensures no_fault { OnOk result (SameCounts (F.view files.old) (F.view files.new)) }
@@ -142,7 +142,7 @@ pub(crate) fn read_arrivals<F: Files>(
     ensures whole { IfOk result (λ answers. IsTrue (F.view files.old).tells → HoldsCapture (F.view files.old) interface.now name.now answers) }
     ensures few { IfOk result (λ answers. length answers ≤ 4000000) }
     ensures why { IfErr result (ArrivalCauses (F.view files.old) (F.view files.new) interface.now name.now) }
-    ensures keeps { Keeps Any Any (F.view files.old) (F.view files.new) }
+    ensures keeps { Keeps Everything Everything (F.view files.old) (F.view files.new) }
     ensures opens { OnlyOpens (F.view files.old) (F.view files.new) 2 }
     ensures said { (F.view files.new).said ≡ (F.view files.old).said }
     ensures no_fault { OnOk result (SameCounts (F.view files.old) (F.view files.new)) }

@@ -2,7 +2,7 @@
 ghost use Rattle.std.specs.Prelude.{◌≡◌, IsTrue, IfErr, IfOk, OnOk};
 ghost use Rattle.conf_laws.specs.Fit.{IsInterface};
 ghost use Rattle.early_stops.specs.Arriving.{OnlyOpens};
-ghost use Rattle.play_base.specs.View.{Any, Keeps, SameCounts};
+ghost use Rattle.play_base.specs.View.{Everything, Keeps, SameCounts};
 ghost use Rattle.verify_command.specs.Input.{HoldsFates, InputCauses};
 
 use crate::input::InputFault;
@@ -24,7 +24,7 @@ pub(crate) fn read_fates<F: Files>(
     requires fits { IsInterface interface.now }
     ensures whole { IfOk result (λ fates. IsTrue (F.view files.old).tells → HoldsFates (F.view files.old) interface.now name.now fates) }
     ensures why { IfErr result (InputCauses (F.view files.old) (F.view files.new) 4 name.now) }
-    ensures keeps { Keeps Any Any (F.view files.old) (F.view files.new) }
+    ensures keeps { Keeps Everything Everything (F.view files.old) (F.view files.new) }
     ensures opens { OnlyOpens (F.view files.old) (F.view files.new) 4 }
     ensures said { (F.view files.new).said ≡ (F.view files.old).said }
     ensures no_fault { OnOk result (SameCounts (F.view files.old) (F.view files.new)) }

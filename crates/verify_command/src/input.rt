@@ -1,6 +1,6 @@
 // Reading the files that are verified.
 ghost use Rattle.std.specs.Prelude.{◌≡◌, ◌≤◌, ◌<◌, ◌^◌, length, Some, IsTrue, IfErr, IfOk, OnOk};
-ghost use Rattle.play_base.specs.View.{Any, Keeps, SameCounts};
+ghost use Rattle.play_base.specs.View.{Everything, Keeps, SameCounts};
 ghost use Rattle.early_stops.specs.Arriving.{OnlyOpens};
 ghost use Rattle.verify_command.specs.Input.{InputCauses};
 
@@ -34,7 +34,7 @@ pub(crate) fn read_file<F: Files>(
     ensures whole { IfOk result (λ all. IsTrue (F.view files.old).tells → (F.view files.old).bytes name.now ≡ Some all.items) }
     ensures short { IfOk result (λ all. length all.items ≤ 2 ^ 30) }
     ensures why { IfErr result (InputCauses (F.view files.old) (F.view files.new) part name.now) }
-    ensures keeps { Keeps Any Any (F.view files.old) (F.view files.new) }
+    ensures keeps { Keeps Everything Everything (F.view files.old) (F.view files.new) }
     ensures opens { OnlyOpens (F.view files.old) (F.view files.new) part }
     ensures said { (F.view files.new).said ≡ (F.view files.old).said }
     ensures no_fault { OnOk result (SameCounts (F.view files.old) (F.view files.new)) }

@@ -11,7 +11,7 @@ use Rattle.altq_model.specs.declared.Rule.{Rule}
 use Rattle.altq_model.specs.declared.Verdict.{Verdict}
 use Rattle.altq_model.specs.declared.Verdict.TheVariants.{Keep, Mark, Drop}
 use Rattle.altq_model.specs.Arrivals.{Captured, bare_arrivals}
-use Rattle.altq_model.specs.History.{Answer, Arrival, Decision, DrawnWords, Event, Offered, Sent, Happened, Sending, bare, decided, drawn, dropped_by, is_mark, journal, was_marked}
+use Rattle.altq_model.specs.History.{Answer, Arrival, Decision, DrawnWords, Event, Offered, Sent, LabelledEvent, Sending, unlabelled, decided, drawn, dropped_by, is_mark, journal, was_marked}
 use Rattle.altq_model.specs.Lawful.{AreHeld, AreRising, MaySend}
 use Rattle.altq_model.specs.Link.{link}
 use Rattle.altq_model.specs.Play.{AreDue, offer_of}
@@ -38,13 +38,13 @@ use Rattle.verify_laws.proofs.Verdicts.{CanAnswer, MayDrop, answer_can}
 
 -- THE EVENTS OF A PLAY
 -- what is known of the first events of a play of an interface
-pub record IsOfPlay (i : Interface) (seed : ℕ) (arrived : List Arrival) (g : List Happened) : Type 0 where
+pub record IsOfPlay (i : Interface) (seed : ℕ) (arrived : List Arrival) (g : List LabelledEvent) : Type 0 where
   pub fit : IsInterface i
   pub held : AreHeld (policy_of i) arrived
   pub each : EachFollows (policy_of i) i.rate seed arrived g
   pub of_arrivals : AreOfArrivals arrived g
 
-older : (i : Interface) (seed : ℕ) (arrived : List Arrival) (e : Happened) (g : List Happened) → IsOfPlay i seed arrived (e ∷ g) → IsOfPlay i seed arrived g
+older : (i : Interface) (seed : ℕ) (arrived : List Arrival) (e : LabelledEvent) (g : List LabelledEvent) → IsOfPlay i seed arrived (e ∷ g) → IsOfPlay i seed arrived g
 older i seed arrived e g x = record { fit = x.fit; held = x.held; each = x.each.1; of_arrivals = x.of_arrivals.1 }
 
 -- an offer is of the packet of its number, and its class's queue answers it
@@ -59,11 +59,11 @@ answer_by : (kind : Kind) (i : Interface) (h : List Event) (w : DrawnWords) (a :
 answer_by Hfsc i h w a = refl
 answer_by Cbq i h w a = refl
 
-abbrev words_of : (seed : ℕ) → List Happened → DrawnWords
-words_of seed g = record { seed = seed; drawn = drawn (bare g) }
+abbrev words_of : (seed : ℕ) → List LabelledEvent → DrawnWords
+words_of seed g = record { seed = seed; drawn = drawn (unlabelled g) }
 
-offer_answered : (i : Interface) (seed : ℕ) (arrived : List Arrival) (g : List Happened) (n : ℕ) (a : Arrival) → AreHeld (policy_of i) arrived
-    → slice_get arrived (n - 1) ≡ Some a → IsAnswered i arrived n ((policy_of i).answer (bare g) (words_of seed g) a).verdict
+offer_answered : (i : Interface) (seed : ℕ) (arrived : List Arrival) (g : List LabelledEvent) (n : ℕ) (a : Arrival) → AreHeld (policy_of i) arrived
+    → slice_get arrived (n - 1) ≡ Some a → IsAnswered i arrived n ((policy_of i).answer (unlabelled g) (words_of seed g) a).verdict
 offer_answered i seed arrived g n a held at =
     let its = has_class i arrived n a held at in
     let P : Answer → Type 0 = λ v. CanAnswer its.class.drop a.prec v.verdict in
@@ -72,7 +72,7 @@ offer_answered i seed arrived g n a held at =
       at = at;
       class = its.class;
       there = its.at;
-      can = subst P (sym (answer_by i.kind i (bare g) (words_of seed g) a)) (answer_can i (bare g) (words_of seed g) a its.class its.at);
+      can = subst P (sym (answer_by i.kind i (unlabelled g) (words_of seed g) a)) (answer_can i (unlabelled g) (words_of seed g) a its.class its.at);
     }
 
 -- FATES
@@ -99,17 +99,17 @@ drop_by i arrived n (Drop r) x =
     let may = drop_can (allowed_in i.kind x.class) r (subst P (sym (early_by i.kind x.class)) x.can.drops) in
     (occurs_there i arrived n x.packet x.class (fate.Dropped r) x.at x.there may, tt)
 
-offer_can : (i : Interface) (seed : ℕ) (arrived : List Arrival) (e : Happened) (g : List Happened) → AreHeld (policy_of i) arrived
+offer_can : (i : Interface) (seed : ℕ) (arrived : List Arrival) (e : LabelledEvent) (g : List LabelledEvent) → AreHeld (policy_of i) arrived
     → IsOffer (policy_of i) i.rate seed arrived g e → IsOfArrival arrived e.label e.what → CanOccur (allowed_of i) arrived (decided e.label e.what)
 offer_can i seed arrived e g held x of =
-    let o : Happened = offer_of (policy_of i) seed g x.packet in
-    let P : Happened → Type 0 = λ z. IsOfArrival arrived z.label z.what in
-    let Q : Happened → Type 0 = λ z. CanOccur (allowed_of i) arrived (decided z.label z.what) in
+    let o : LabelledEvent = offer_of (policy_of i) seed g x.packet in
+    let P : LabelledEvent → Type 0 = λ z. IsOfArrival arrived z.label z.what in
+    let Q : LabelledEvent → Type 0 = λ z. CanOccur (allowed_of i) arrived (decided z.label z.what) in
     let its = subst P x.offer of in
-    subst Q (sym x.offer) (drop_by i arrived o.label ((policy_of i).answer (bare g) (words_of seed g) x.packet).verdict
+    subst Q (sym x.offer) (drop_by i arrived o.label ((policy_of i).answer (unlabelled g) (words_of seed g) x.packet).verdict
     (offer_answered i seed arrived g o.label x.packet held its.1))
 
-sending_can : (i : Interface) (seed : ℕ) (arrived : List Arrival) (e : Happened) (g : List Happened) → IsInterface i → AreHeld (policy_of i) arrived
+sending_can : (i : Interface) (seed : ℕ) (arrived : List Arrival) (e : LabelledEvent) (g : List LabelledEvent) → IsInterface i → AreHeld (policy_of i) arrived
     → IsSending (policy_of i) i.rate arrived g e → IsOfArrival arrived e.label e.what → CanOccur (allowed_of i) arrived (decided e.label e.what)
 sending_can i seed arrived e g fit held x of =
     let P : Event → Type 0 = λ z. IsOfArrival arrived e.label z in
@@ -117,21 +117,21 @@ sending_can i seed arrived e g fit held x of =
     let s : Sending = x.sending in
     let its = subst P x.event of in
     let there = has_class i arrived e.label its.packet held its.arrival in
-    let class : its.packet.class ≡ ((policy_of i).pick (bare g) s.start).class = sym its.class ∙ x.class in
+    let class : its.packet.class ≡ ((policy_of i).pick (unlabelled g) s.start).class = sym its.class ∙ x.class in
     let R : ℕ → Type 0 = λ c. slice_get i.classes c ≡ Some there.class in
-    let M : ℕ → Type 0 = λ c. MaySend (policy_of i) (link i.rate (bare g)).free (bare g) c s.start in
-    let picked = pick_can i.kind i (bare g) (link i.rate (bare g)).free s.start there.class fit (subst M x.class x.may) (subst R class there.at) in
+    let M : ℕ → Type 0 = λ c. MaySend (policy_of i) (link i.rate (unlabelled g)).free (unlabelled g) c s.start in
+    let picked = pick_can i.kind i (unlabelled g) (link i.rate (unlabelled g)).free s.start there.class fit (subst M x.class x.may) (subst R class there.at) in
     let S : Rule → Type 0 = λ r. CanOccur (allowed_of i) arrived ((e.label, fate.Sent s.start s.end r) ∷ []) in
     subst Q (sym x.event) (subst S (sym x.rule)
-    (occurs_there i arrived e.label its.packet there.class (fate.Sent s.start s.end ((policy_of i).pick (bare g) s.start).rule) its.arrival there.at picked, tt))
+    (occurs_there i arrived e.label its.packet there.class (fate.Sent s.start s.end ((policy_of i).pick (unlabelled g) s.start).rule) its.arrival there.at picked, tt))
 
-event_can : (i : Interface) (seed : ℕ) (arrived : List Arrival) (e : Happened) (g : List Happened) → IsInterface i → AreHeld (policy_of i) arrived
+event_can : (i : Interface) (seed : ℕ) (arrived : List Arrival) (e : LabelledEvent) (g : List LabelledEvent) → IsInterface i → AreHeld (policy_of i) arrived
     → IsOffer (policy_of i) i.rate seed arrived g e ⊎ IsSending (policy_of i) i.rate arrived g e → IsOfArrival arrived e.label e.what
     → CanOccur (allowed_of i) arrived (decided e.label e.what)
 event_can i seed arrived e g fit held (inl x) of = offer_can i seed arrived e g held x of
 event_can i seed arrived e g fit held (inr x) of = sending_can i seed arrived e g fit held x of
 
-pub fates_can_occur : (i : Interface) (seed : ℕ) (arrived : List Arrival) (g : List Happened) → IsOfPlay i seed arrived g
+pub fates_can_occur : (i : Interface) (seed : ℕ) (arrived : List Arrival) (g : List LabelledEvent) → IsOfPlay i seed arrived g
     → CanOccur (allowed_of i) arrived (journal g)
 fates_can_occur i seed arrived [] x = tt
 fates_can_occur i seed arrived (e ∷ g) x =
@@ -162,14 +162,14 @@ mark_if i arrived n label false mark before same here there e = there e
 same_label : (m n : ℕ) → (m == n) ≡ true → m ≡ n
 same_label m n e = grind (arith, nat_tests, e)
 
-event_mark : (i : Interface) (seed : ℕ) (arrived : List Arrival) (n : ℕ) (e : Happened) (g : List Happened) → AreHeld (policy_of i) arrived
+event_mark : (i : Interface) (seed : ℕ) (arrived : List Arrival) (n : ℕ) (e : LabelledEvent) (g : List LabelledEvent) → AreHeld (policy_of i) arrived
     → IsOffer (policy_of i) i.rate seed arrived g e ⊎ IsSending (policy_of i) i.rate arrived g e → IsOfArrival arrived e.label e.what
     → (was_marked n g ≡ true → IsMarkable i arrived n) → was_marked n (e ∷ g) ≡ true → IsMarkable i arrived n
 event_mark i seed arrived n e g held (inl x) of before =
-    let o : Happened = offer_of (policy_of i) seed g x.packet in
-    let v : Verdict = ((policy_of i).answer (bare g) (words_of seed g) x.packet).verdict in
-    let P : Happened → Type 0 = λ z. IsOfArrival arrived z.label z.what in
-    let Q : Happened → Type 0 = λ z. was_marked n (z ∷ g) ≡ true → IsMarkable i arrived n in
+    let o : LabelledEvent = offer_of (policy_of i) seed g x.packet in
+    let v : Verdict = ((policy_of i).answer (unlabelled g) (words_of seed g) x.packet).verdict in
+    let P : LabelledEvent → Type 0 = λ z. IsOfArrival arrived z.label z.what in
+    let Q : LabelledEvent → Type 0 = λ z. was_marked n (z ∷ g) ≡ true → IsMarkable i arrived n in
     let its = subst P x.offer of in
     let answered = offer_answered i seed arrived g o.label x.packet held its.1 in
     subst Q (sym x.offer)
@@ -178,7 +178,7 @@ event_mark i seed arrived n e g held (inr x) of before =
     let Q : Event → Type 0 = λ z. was_marked n (record { label = e.label; what = z } ∷ g) ≡ true → IsMarkable i arrived n in
     subst Q (sym x.event) before
 
-marked : (i : Interface) (seed : ℕ) (arrived : List Arrival) (n : ℕ) (g : List Happened) → IsOfPlay i seed arrived g → was_marked n g ≡ true
+marked : (i : Interface) (seed : ℕ) (arrived : List Arrival) (n : ℕ) (g : List LabelledEvent) → IsOfPlay i seed arrived g → was_marked n g ≡ true
     → IsMarkable i arrived n
 marked i seed arrived n [] x e = absurd cc
 marked i seed arrived n (y ∷ g) x e =
@@ -202,14 +202,14 @@ markable i arrived frames n c x is =
     both (option_map_or (λ (b : Bool). b) (slice_get (marks_of i) c) false) (precedence_of arrived n == 1) marks
     (ap (λ (m : ℕ). m == 1) prec ∙ x.capable)
 
-event_may : (i : Interface) (seed : ℕ) (arrived : List Captured) (frames : List (List ℕ)) (n : ℕ) (e : Event) (g : List Happened)
+event_may : (i : Interface) (seed : ℕ) (arrived : List Captured) (frames : List (List ℕ)) (n : ℕ) (e : Event) (g : List LabelledEvent)
     → IsOfPlay i seed (bare_arrivals arrived) g → MayHaveMarked (packets_of i (bare_arrivals arrived) frames) arrived n e g
 event_may i seed arrived frames n (Offered a w v) g x = tt
 event_may i seed arrived frames n (Sent s) g x = λ e.
     let m = marked i seed (bare_arrivals arrived) n g x e in
     markable i (bare_arrivals arrived) frames n _ m (class_is arrived n ∙ class_at (bare_arrivals arrived) n m.packet m.at)
 
-pub marks_are_allowed : (i : Interface) (seed : ℕ) (arrived : List Captured) (frames : List (List ℕ)) (g : List Happened)
+pub marks_are_allowed : (i : Interface) (seed : ℕ) (arrived : List Captured) (frames : List (List ℕ)) (g : List LabelledEvent)
     → IsOfPlay i seed (bare_arrivals arrived) g → MarksAreAllowed (packets_of i (bare_arrivals arrived) frames) arrived g
 marks_are_allowed i seed arrived frames [] x = tt
 marks_are_allowed i seed arrived frames (e ∷ g) x =
@@ -217,18 +217,18 @@ marks_are_allowed i seed arrived frames (e ∷ g) x =
     (event_may i seed arrived frames e.label e.what g rest, marks_are_allowed i seed arrived frames g rest)
 
 -- OF THE EVENTS THAT WERE DUE
-of_play : (i : Interface) (seed : ℕ) (arrived : List Arrival) (g : List Happened) → IsInterface i → AreRising arrived → AreHeld (policy_of i) arrived
+of_play : (i : Interface) (seed : ℕ) (arrived : List Arrival) (g : List LabelledEvent) → IsInterface i → AreRising arrived → AreHeld (policy_of i) arrived
     → AreDue (policy_of i) i.rate seed arrived g → IsOfPlay i seed arrived g
 of_play i seed arrived g fit rising held due =
     let least = fit.rate.0 in
     let laws = due_laws (policy_of i) i.rate seed arrived g (omega (arith, least)) (policies_are_lawful i fit) rising due in
     record { fit = fit; held = held; each = laws.each; of_arrivals = laws.of_arrivals }
 
-pub play_can_occur : (i : Interface) (seed : ℕ) (arrived : List Arrival) (g : List Happened) → IsInterface i → AreRising arrived
+pub play_can_occur : (i : Interface) (seed : ℕ) (arrived : List Arrival) (g : List LabelledEvent) → IsInterface i → AreRising arrived
     → AreHeld (policy_of i) arrived → AreDue (policy_of i) i.rate seed arrived g → CanOccur (allowed_of i) arrived (journal g)
 play_can_occur i seed arrived g fit rising held due = fates_can_occur i seed arrived g (of_play i seed arrived g fit rising held due)
 
-pub play_marks : (i : Interface) (seed : ℕ) (arrived : List Captured) (p : Packets) (g : List Happened) → IsInterface i → AreRising (bare_arrivals arrived)
+pub play_marks : (i : Interface) (seed : ℕ) (arrived : List Captured) (p : Packets) (g : List LabelledEvent) → IsInterface i → AreRising (bare_arrivals arrived)
     → AreHeld (policy_of i) (bare_arrivals arrived) → AreDue (policy_of i) i.rate seed (bare_arrivals arrived) g → p.arrived ≡ bare_arrivals arrived
     → p.marks ≡ marks_of i → MarksAreAllowed p arrived g
 play_marks i seed arrived p g fit rising held due comes marks =

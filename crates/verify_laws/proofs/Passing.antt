@@ -7,7 +7,7 @@ use Rattle.std.proofs.lemmas.List.{length-append, length-map}
 use Rattle.altq_model.specs.declared.Placed.{Placed}
 use Rattle.altq_model.specs.Arrivals.{Captured, arrivals_from, arrivals_of, bare_arrivals}
 use Rattle.altq_model.specs.Departures.{KeepsLength, departures}
-use Rattle.altq_model.specs.History.{Decision, Happened, bare, journal}
+use Rattle.altq_model.specs.History.{Decision, LabelledEvent, unlabelled, journal}
 use Rattle.altq_model.specs.Lawful.{AreHeld, AreRising, IsLawful, NeverWaits}
 use Rattle.altq_model.specs.Laws.{IsInTime}
 use Rattle.altq_model.specs.Play.{IsOneOf, IsPlay}
@@ -60,7 +60,7 @@ use Rattle.verify_laws.proofs.SmallRows.{AreSmall, are_small, arrivals_told, sma
 use Rattle.verify_laws.proofs.Stamps.{AreEarly}
 
 -- the whole play of the records of a capture by an interface of a configuration
-pub record IsWholePlay (i : Interface) (seed : ℕ) (records : List Record) (g : List Happened) : Type 0 where
+pub record IsWholePlay (i : Interface) (seed : ℕ) (records : List Record) (g : List LabelledEvent) : Type 0 where
   pub fit : IsInterface i
   pub held : (frame : List ℕ) → IsOneOf (place_in i frame).class (policy_of i).classes
   pub named : (frame : List ℕ) → HasClass (queue_names i) (place_in i frame).class
@@ -71,7 +71,7 @@ pub record IsWholePlay (i : Interface) (seed : ℕ) (records : List Record) (g :
   pub promises : KeepsPromises i (bare_arrivals (arrivals_of (place_in i) records)) g
 
 -- its texts, to be held to the interface
-abbrev pub texts_given : Interface → List Record → List Happened → Given
+abbrev pub texts_given : Interface → List Record → List LabelledEvent → Given
 texts_given i records g =
     let arrived = arrivals_of (place_in i) records in
     record {
@@ -125,7 +125,7 @@ none_timely rate h c s e = absurd cc
 
 -- THE TESTS
 -- what every play of it keeps
-record Keeps (i : Interface) (seed : ℕ) (records : List Record) (g : List Happened) : Type 0 where
+record Keeps (i : Interface) (seed : ℕ) (records : List Record) (g : List LabelledEvent) : Type 0 where
   some : 0 < i.rate
   lawful : IsLawful (policy_of i)
   rising : AreRising (bare_arrivals (arrivals_of (place_in i) records))
@@ -133,7 +133,7 @@ record Keeps (i : Interface) (seed : ℕ) (records : List Record) (g : List Happ
   laws : HasLaws (policy_of i) i.rate seed (bare_arrivals (arrivals_of (place_in i) records)) g
   small : AreSmall (queue_names i) (rows_for (arrivals_of (place_in i) records) (journal g))
 
-keeps : (i : Interface) (seed : ℕ) (records : List Record) (g : List Happened) → IsWholePlay i seed records g → Keeps i seed records g
+keeps : (i : Interface) (seed : ℕ) (records : List Record) (g : List LabelledEvent) → IsWholePlay i seed records g → Keeps i seed records g
 keeps i seed records g x =
     let arrived : List Captured = arrivals_of (place_in i) records in
     let least = x.fit.rate.0 in
@@ -157,7 +157,7 @@ frames_from : (place : List ℕ → Placed) (latest : ℕ) (records : List Recor
 frames_from place latest [] = refl
 frames_from place latest (r ∷ rs) = ap (λ (fs : List (List ℕ)). r.captured ∷ fs) (frames_from place (max latest r.stamp) rs)
 
-timely_by : (kind : Kind) (i : Interface) (seed : ℕ) (records : List Record) (g : List Happened) → i.kind ≡ kind → IsWholePlay i seed records g
+timely_by : (kind : Kind) (i : Interface) (seed : ℕ) (records : List Record) (g : List LabelledEvent) → i.kind ≡ kind → IsWholePlay i seed records g
     → Keeps i seed records g → AreTimely i (rows_for (arrivals_of (place_in i) records) (journal g))
 timely_by Hfsc i seed records g e x k = λ fits.
     let arrived : List Captured = arrivals_of (place_in i) records in
@@ -166,9 +166,9 @@ timely_by Hfsc i seed records g e x k = λ fits.
 timely_by Cbq i seed records g e x k = λ fits.
     let arrived : List Captured = arrivals_of (place_in i) records in
     timely_passes (policy_of i) i.rate seed [] (curves_in i) arrived g k.some k.laws
-    (no_curves i.classes (λ n c at. no_real i.kind c e (x.fit.tree.class n c at).own)) (none_timely i.rate (hfsc_history (bare g)))
+    (no_curves i.classes (λ n c at. no_real i.kind c e (x.fit.tree.class n c at).own)) (none_timely i.rate (hfsc_history (unlabelled g)))
 
-pub play_passes : (i : Interface) (seed : ℕ) (records : List Record) (g : List Happened) → IsWholePlay i seed records g
+pub play_passes : (i : Interface) (seed : ℕ) (records : List Record) (g : List LabelledEvent) → IsWholePlay i seed records g
     → AreVerified (texts_given i records g) (lates (curves_in i) (rows_for (arrivals_of (place_in i) records) (journal g)))
 play_passes i seed records g x =
     let arrived : List Captured = arrivals_of (place_in i) records in
@@ -191,14 +191,14 @@ play_passes i seed records g x =
     }
 
 -- THE LENGTHS
-pub departures_short : (i : Interface) (seed : ℕ) (records : List Record) (g : List Happened) → IsWholePlay i seed records g
+pub departures_short : (i : Interface) (seed : ℕ) (records : List Record) (g : List LabelledEvent) → IsWholePlay i seed records g
     → length (texts_given i records g).departures ≤ 2 ^ 30
 departures_short i seed records g x =
     let k = keeps i seed records g x in
     let keeps_length : KeepsLength (dress_in i) = λ class marked frame. length-departing (handling_at (classes_of i).handlings class).clears marked frame in
     (departed_within (dress_in i) (place_in i) records (policy_of i) i.rate seed g keeps_length x.sized k.laws x.in_time).size
 
-pub fates_short : (i : Interface) (seed : ℕ) (records : List Record) (g : List Happened) → IsWholePlay i seed records g
+pub fates_short : (i : Interface) (seed : ℕ) (records : List Record) (g : List LabelledEvent) → IsWholePlay i seed records g
     → length (texts_given i records g).fates ≤ 2 ^ 30
 fates_short i seed records g x =
     let arrived : List Captured = arrivals_of (place_in i) records in

@@ -8,7 +8,7 @@ use Rattle.altq_model.specs.declared.Placed.{Placed}
 use Rattle.altq_model.specs.declared.Verdict.{Verdict}
 use Rattle.altq_model.specs.declared.Verdict.TheVariants.{Keep, Mark, Drop}
 use Rattle.altq_model.specs.Arrivals.{Captured, arrival, arrivals_from, arrivals_of, bare_arrival, bare_arrivals}
-use Rattle.altq_model.specs.History.{Arrival, Event, Happened, Sending, bare, decided, dropped_by, journal}
+use Rattle.altq_model.specs.History.{Arrival, Event, LabelledEvent, Sending, unlabelled, decided, dropped_by, journal}
 use Rattle.altq_model.specs.Laws.{EndsInTime, IsInTime, clock_end}
 use Rattle.altq_model.specs.Play.{Policy, offer_of}
 use Rattle.capture_model.specs.Capture.{Record, longest, most_records}
@@ -121,7 +121,7 @@ offer_rows names arrived n a (Drop r) told from e = (row_of names arrived n a (f
 sent_early : (start end : ℕ) → start ≤ end → end < clock_end → (start < clock_end) × (end < clock_end)
 sent_early start end le lt = (omega (arith, le, lt), lt)
 
-sending_rows : (p : Policy) (rate : ℕ) (names : NameList) (arrived : List Captured) (e : Happened) (g : List Happened) → 0 < rate
+sending_rows : (p : Policy) (rate : ℕ) (names : NameList) (arrived : List Captured) (e : LabelledEvent) (g : List LabelledEvent) → 0 < rate
     → AreTold names (bare_arrivals arrived) → IsSending p rate (bare_arrivals arrived) g e → IsOfArrival (bare_arrivals arrived) e.label e.what → EndsInTime e.what
     → AreSmall names (rows_for arrived (decided e.label e.what))
 sending_rows p rate names arrived e g some told x of early =
@@ -130,23 +130,23 @@ sending_rows p rate names arrived e g some told x of early =
     let Q : Event → Type 0 = λ z. AreSmall names (rows_for arrived (decided e.label z)) in
     let T : Event → Type 0 = λ z. EndsInTime z in
     let its = subst P x.event of in
-    let later = end_later rate (bare g) s.start s.len some in
+    let later = end_later rate (unlabelled g) s.start s.len some in
     let end = x.end in
     let fits = sent_early s.start s.end (omega (arith, later, end)) (subst T x.event early) in
     subst Q (sym x.event) (row_of names arrived e.label its.packet (fate.Sent s.start s.end s.rule) told its.from_one its.arrival fits, tt)
 
-event_rows : (p : Policy) (rate seed : ℕ) (names : NameList) (arrived : List Captured) (e : Happened) (g : List Happened) → 0 < rate
+event_rows : (p : Policy) (rate seed : ℕ) (names : NameList) (arrived : List Captured) (e : LabelledEvent) (g : List LabelledEvent) → 0 < rate
     → AreTold names (bare_arrivals arrived) → IsOffer p rate seed (bare_arrivals arrived) g e ⊎ IsSending p rate (bare_arrivals arrived) g e
     → IsOfArrival (bare_arrivals arrived) e.label e.what → EndsInTime e.what → AreSmall names (rows_for arrived (decided e.label e.what))
 event_rows p rate seed names arrived e g some told (inl x) of early =
-    let o : Happened = offer_of p seed g x.packet in
-    let P : Happened → Type 0 = λ z. IsOfArrival (bare_arrivals arrived) z.label z.what in
-    let Q : Happened → Type 0 = λ z. AreSmall names (rows_for arrived (decided z.label z.what)) in
+    let o : LabelledEvent = offer_of p seed g x.packet in
+    let P : LabelledEvent → Type 0 = λ z. IsOfArrival (bare_arrivals arrived) z.label z.what in
+    let Q : LabelledEvent → Type 0 = λ z. AreSmall names (rows_for arrived (decided z.label z.what)) in
     let its = subst P x.offer of in
     subst Q (sym x.offer) (offer_rows names arrived o.label x.packet _ told its.0 its.1)
 event_rows p rate seed names arrived e g some told (inr x) of early = sending_rows p rate names arrived e g some told x of early
 
-pub are_small : (p : Policy) (rate seed : ℕ) (names : NameList) (arrived : List Captured) (g : List Happened) → 0 < rate → AreTold names (bare_arrivals arrived)
+pub are_small : (p : Policy) (rate seed : ℕ) (names : NameList) (arrived : List Captured) (g : List LabelledEvent) → 0 < rate → AreTold names (bare_arrivals arrived)
     → EachFollows p rate seed (bare_arrivals arrived) g → AreOfArrivals (bare_arrivals arrived) g → IsInTime g → AreSmall names (rows_for arrived (journal g))
 are_small p rate seed names arrived [] some told each of early = tt
 are_small p rate seed names arrived (e ∷ g) some told each of early =

@@ -11,7 +11,7 @@ use Rattle.capture_model.specs.declared.damage.DamageKind.TheVariants.{ShortReco
 use Rattle.pcap_files.proofs.ReadingLaws.{one_reading}
 use Rattle.pcapng_model.specs.declared.fault.NgKind.{NgKind}
 use Rattle.pcapng_model.specs.declared.fault.NgKind.TheVariants.{BadBlock, BadLink, BadResolution, BadStamp, BadVersion, EmptyRecord, LongRecord, OldPacket, UnknownInterface}
-use Rattle.pcapng_model.specs.Block.{Broken, Found, Framed, NewSection, Passed, Told, Tells, Refuses, TooMany, Whole, count_in, described, described_by, framed, packet_on, section_type, stamped, told, told_interface, told_packet, told_section}
+use Rattle.pcapng_model.specs.Block.{Broken, Found, Framed, NewSection, Passed, BlockContent, Tells, Refuses, TooMany, Whole, count_in, described, described_by, framed, packet_on, section_type, stamped, told, told_interface, told_packet, told_section}
 use Rattle.pcapng_model.specs.Interface.{Interface, Settings, early, moved, options, units_of}
 use Rattle.pcapng_model.specs.Number.{number, padded}
 use Rattle.pcapng_model.specs.Reading.{Block, IsPcapng, Place, packets, packets_in, past, start, step_by, step_in}
@@ -106,12 +106,12 @@ formed_early (Formed form) bytes records last all x = stand_early form bytes 0 2
 formed_early (Unformed fault) bytes records last all x = let P : List Record → Type 0 = λ rs. AreEarly rs in subst P (sym x.0) tt
 
 -- A PCAPNG FILE
-abbrev Early : Told → Type 0
+abbrev Early : BlockContent → Type 0
 Early (Tells found) = AreEarly (packets_in found)
 Early (Refuses kind) = Unit {0}
 Early TooMany = Unit {0}
 
-record IsEarly (t : Told) : Type 0 where
+record IsEarly (t : BlockContent) : Type 0 where
   is : Early t
 
 refused : (kind : NgKind) → IsEarly (Refuses kind)
@@ -120,13 +120,13 @@ refused kind = record { is = tt }
 no_packet : (found : Found) → AreEarly (packets_in found) → IsEarly (Tells found)
 no_packet found x = record { is = x }
 
-either : (b : Bool) (s t : Told) → IsEarly s → IsEarly t → IsEarly (if b then s else t)
+either : (b : Bool) (s t : BlockContent) → IsEarly s → IsEarly t → IsEarly (if b then s else t)
 either true s t x y = x
 either false s t x y = y
 
 section_early : (big : Bool) (body : List ℕ) → IsEarly (told_section big body)
 section_early big body =
-    let last : Told = if not (number big 2 body 4 == 1) then Refuses BadVersion else Tells (NewSection big) in
+    let last : BlockContent = if not (number big 2 body 4 == 1) then Refuses BadVersion else Tells (NewSection big) in
     either (nat_lt (length body) 16) (Refuses BadBlock) last (refused BadBlock)
     (either (not (number big 2 body 4 == 1)) (Refuses BadVersion) (Tells (NewSection big)) (refused BadVersion) (no_packet (NewSection big) tt))
 
@@ -161,9 +161,9 @@ packet_by None big body = refused UnknownInterface
 packet_by (Some i) big body =
     let captured = number big 4 body 12 in
     let original = number big 4 body 16 in
-    let is : Told = stamped (early (moved i.offset (count_in big body * 10 ^ 9 / i.units))) (take captured (drop 20 body)) original in
-    let empty : Told = if (captured == 0) && (original == 0) then Refuses EmptyRecord else is in
-    let long : Told = if nat_lt longest captured || nat_lt longest original then Refuses LongRecord else empty in
+    let is : BlockContent = stamped (early (moved i.offset (count_in big body * 10 ^ 9 / i.units))) (take captured (drop 20 body)) original in
+    let empty : BlockContent = if (captured == 0) && (original == 0) then Refuses EmptyRecord else is in
+    let long : BlockContent = if nat_lt longest captured || nat_lt longest original then Refuses LongRecord else empty in
     either (not (i.link == 1)) (Refuses BadLink) long (refused BadLink)
     (either (nat_lt longest captured || nat_lt longest original) (Refuses LongRecord) empty (refused LongRecord)
     (either ((captured == 0) && (original == 0)) (Refuses EmptyRecord) is (refused EmptyRecord)
@@ -178,9 +178,9 @@ packet_early big body interfaces count =
 
 told_early : (big : Bool) (kind : ℕ) (body : List ℕ) (interfaces : List Interface) (count : ℕ) → IsEarly (told big kind body interfaces count)
 told_early big kind body interfaces count =
-    let packet : Told = if kind == 6 then told_packet big body interfaces count else Tells Passed in
-    let old : Told = if (kind == 2) || (kind == 3) then Refuses OldPacket else packet in
-    let interface : Told = if kind == 1 then told_interface big body else old in
+    let packet : BlockContent = if kind == 6 then told_packet big body interfaces count else Tells Passed in
+    let old : BlockContent = if (kind == 2) || (kind == 3) then Refuses OldPacket else packet in
+    let interface : BlockContent = if kind == 1 then told_interface big body else old in
     either (kind == section_type) (told_section big body) interface (section_early big body)
     (either (kind == 1) (told_interface big body) old (interface_early big body)
     (either ((kind == 2) || (kind == 3)) (Refuses OldPacket) packet (refused OldPacket)
@@ -196,7 +196,7 @@ ng_unmet false s t b e l = e
 found_same : (x : Found) (n : ℕ) (b : Block) → ng.Next (record { found = x; after = n }) ≡ ng.Next b → x ≡ b.found
 found_same x n b e = let same : record { found = x; after = n } ≡ b = cc in ap (λ (c : Block). c.found) same
 
-by_told : (at after : ℕ) (t : Told) (b : Block) → IsEarly t → step_by at after t ≡ ng.Next b → AreEarly (packets_in b.found)
+by_told : (at after : ℕ) (t : BlockContent) (b : Block) → IsEarly t → step_by at after t ≡ ng.Next b → AreEarly (packets_in b.found)
 by_told at after (Tells x) b early e = let P : Found → Type 0 = λ y. AreEarly (packets_in y) in subst P (found_same x after b e) early.is
 by_told at after (Refuses kind) b early e = absurd (ng_not_next _ b tt e)
 by_told at after TooMany b early e = absurd (ng_not_next _ b tt e)

@@ -22,7 +22,7 @@ use Rattle.leaf_queue.specs.Words.{word}
 use Rattle.red_average.specs.Average.{moved}
 use Rattle.red_average.specs.Red.{red_says, thresholds}
 use Rattle.red_average.specs.Red as red
-use Rattle.red_average.specs.Ruling.{Ruled, between, by_room, by_word, dropped, kept, risen, ruled, spacing}
+use Rattle.red_average.specs.Ruling.{Ruled, between, by_spacing, by_word, dropped, kept, next_count, ruled, spacing}
 use Rattle.rio_precedence.specs.Any.{ecn_verdict, without_early_drop}
 use Rattle.rio_precedence.specs.Precedence.{thresholds_of}
 use Rattle.rio_precedence.specs.Rio.{average_after, rio_says}
@@ -46,13 +46,13 @@ word_unmarked : (room over word count : ℕ) → IsUnmarked (by_word room over w
 word_unmarked room over word count =
     either (nat_lt (word * room) (2 ^ 32 * over)) (dropped Early 1) (kept (pos count) 1) (dropped_unmarked Early 1) (kept_unmarked (pos count) 1)
 
-room_unmarked : (room over word count : ℕ) → IsUnmarked (by_room room over word count)
-room_unmarked room over word count =
+spacing_unmarked : (room over word count : ℕ) → IsUnmarked (by_spacing room over word count)
+spacing_unmarked room over word count =
     either (room == 0) (dropped Early 0) (by_word room over word count) (dropped_unmarked Early 0) (word_unmarked room over word count)
 
 between_unmarked : (t : Thresholds) (average : ℕ) (c : ℤ) (word : ℕ) → IsUnmarked (between t average c word)
 between_unmarked t average c word =
-    room_unmarked (spacing (t.high - t.low) - risen c * (average - t.low)) (average - t.low) word (risen c)
+    spacing_unmarked (spacing (t.high - t.low) - next_count c * (average - t.low)) (average - t.low) word (next_count c)
 
 ruled_unmarked : (t : Thresholds) (full : Bool) (average : ℕ) (c : ℤ) (word : ℕ) → IsUnmarked (ruled t full average c word)
 ruled_unmarked t full average c word =

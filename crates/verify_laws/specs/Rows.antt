@@ -6,7 +6,7 @@ use Rattle.altq_model.specs.declared.Rule.{Rule}
 use Rattle.altq_model.specs.declared.Rule.TheVariants.{Share}
 use Rattle.altq_model.specs.declared.Verdict.TheVariants.{Mark}
 use Rattle.altq_model.specs.Arrivals.{Captured, bare_arrival, bare_arrivals}
-use Rattle.altq_model.specs.History.{Happened, Offered, Sent}
+use Rattle.altq_model.specs.History.{LabelledEvent, Offered, Sent}
 use Rattle.conf_tree.specs.declared.class.Class.{Class}
 use Rattle.conf_tree.specs.declared.class.DropRule.{DropRule}
 use Rattle.conf_tree.specs.declared.interface.Kind.{Kind}
@@ -41,11 +41,15 @@ abbrev pub sent_by : Rule → Fate
 sent_by rule = fate.Sent 0 1000000 rule
 
 -- it may be marked as it is offered, and then sent
-abbrev pub marked_and_sent : (prec : ℕ) → List Happened
+abbrev pub marked_and_sent : (prec : ℕ) → List LabelledEvent
 marked_and_sent prec =
     record { label = 1; what = Sent (record { class = 0; len = 1000; rule = Share; start = 0; end = 1000000 }) }
     ∷ record { label = 1; what = Offered (bare_arrival (comes prec)) (record { seed = 42; drawn = 0 }) (record { verdict = Mark; took = 1 }) } ∷ []
 
 abbrev pub IsMarkable : DropRule → (prec : ℕ) → Type 0
 IsMarkable rule prec =
-    MarksAreAllowed (record { arrived = bare_arrivals (comes prec ∷ []); frames = [] ∷ []; marks = marks_by (with_rule rule) ∷ [] }) (comes prec ∷ []) (marked_and_sent prec)
+    MarksAreAllowed (record {
+      arrived = bare_arrivals (comes prec ∷ []);
+      frames = [] ∷ [];
+      marks = marks_by (with_rule rule) ∷ [];
+    }) (comes prec ∷ []) (marked_and_sent prec)

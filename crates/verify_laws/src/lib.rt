@@ -3,7 +3,7 @@
 
 ghost use Rattle.std.specs.Prelude.{◌≡◌, ℕ, IsTrue, List, Ok};
 ghost use Rattle.altq_model.specs.Arrivals.{Captured, bare_arrivals};
-ghost use Rattle.altq_model.specs.History.{Arrival, Happened, journal};
+ghost use Rattle.altq_model.specs.History.{Arrival, LabelledEvent, journal};
 ghost use Rattle.altq_model.specs.Lawful.{AreHeld, AreRising};
 ghost use Rattle.altq_model.specs.Play.{AreDue};
 ghost use Rattle.command_base.specs.Names.{Names};
@@ -39,9 +39,9 @@ pub use rows::worked_fates;
 /// `ecn`, and where its precedence is 1.
 #[tactic(auto, using(crate::proofs::Causes::play_can_occur, crate::proofs::Causes::play_marks))]
 pub fn fates_of_plays_can_occur()
-    ensures causes { (i : Interface) (seed : ℕ) (arrived : List Arrival) (g : List Happened) → IsInterface i → AreRising arrived
+    ensures causes { (i : Interface) (seed : ℕ) (arrived : List Arrival) (g : List LabelledEvent) → IsInterface i → AreRising arrived
         → AreHeld (policy_of i) arrived → AreDue (policy_of i) i.rate seed arrived g → CanOccur (allowed_of i) arrived (journal g) }
-    ensures marks { (i : Interface) (seed : ℕ) (arrived : List Captured) (p : Packets) (g : List Happened) → IsInterface i
+    ensures marks { (i : Interface) (seed : ℕ) (arrived : List Captured) (p : Packets) (g : List LabelledEvent) → IsInterface i
         → AreRising (bare_arrivals arrived) → AreHeld (policy_of i) (bare_arrivals arrived) → AreDue (policy_of i) i.rate seed (bare_arrivals arrived) g
         → p.arrived ≡ bare_arrivals arrived → p.marks ≡ marks_of i → MarksAreAllowed p arrived g }
 {}

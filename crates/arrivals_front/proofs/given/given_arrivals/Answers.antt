@@ -1,5 +1,5 @@
 use Rattle.std.proofs.Common.{ap, sym, subst, refl, ◌∙◌, ◌≡◌, true, false}
-use Rattle.play_base.specs.View.{Any}
+use Rattle.play_base.specs.View.{Everything}
 use Rattle.play_base.proofs.ViewLaws.{keeps_trans}
 use Rattle.arrivals_front.specs.Given.{IsRefused, is_pcapng}
 use Rattle.arrivals_front.specs.declared.given.GivenFault.{GivenFault}
@@ -39,7 +39,7 @@ returns-in-Ok-convert-clause-given g c =
     (taken_all old mid new c.args.file taken whole given x begins c.in-Ok-whole_file.ensures.whole h) c.in-Ok-convert.ensures.converted
 
 pub returns-in-Ok-convert-clause-keeps : goal.returns-in-Ok-convert-clause-keeps
-returns-in-Ok-convert-clause-keeps g c = keeps_trans Any _ _ _ _ c.in-Ok.ensures.keeps c.in-Ok-whole_file.ensures.keeps
+returns-in-Ok-convert-clause-keeps g c = keeps_trans Everything _ _ _ _ c.in-Ok.ensures.keeps c.in-Ok-whole_file.ensures.keeps
 
 pub returns-in-Err-convert-clause-refused : goal.returns-in-Err-convert-clause-refused
 returns-in-Err-convert-clause-refused g c =
@@ -54,10 +54,10 @@ returns-in-Err-convert-clause-refused g c =
     (refused_converted old mid new c.args.file taken whole c.in-Err-convert.fault x begins c.in-Ok-whole_file.ensures.whole c.in-Err-convert.ensures.fault)
 
 pub returns-in-Err-convert-clause-keeps : goal.returns-in-Err-convert-clause-keeps
-returns-in-Err-convert-clause-keeps g c = keeps_trans Any _ _ _ _ c.in-Ok.ensures.keeps c.in-Ok-whole_file.ensures.keeps
+returns-in-Err-convert-clause-keeps g c = keeps_trans Everything _ _ _ _ c.in-Ok.ensures.keeps c.in-Ok-whole_file.ensures.keeps
 
 pub returns-in-Err-whole_file-clause-keeps : goal.returns-in-Err-whole_file-clause-keeps
-returns-in-Err-whole_file-clause-keeps g c = keeps_trans Any _ _ _ _ c.in-Ok.ensures.keeps c.in-Err-whole_file.ensures.keeps
+returns-in-Err-whole_file-clause-keeps g c = keeps_trans Everything _ _ _ _ c.in-Ok.ensures.keeps c.in-Err-whole_file.ensures.keeps
 
 pub returns-in-Err-whole_file-clause-none : goal.returns-in-Err-whole_file-clause-none
 returns-in-Err-whole_file-clause-none g c = λ f h. c.in-Err-whole_file.ensures.none f (c.in-Ok.ensures.none f h)

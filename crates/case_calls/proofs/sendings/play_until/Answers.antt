@@ -10,7 +10,7 @@ use Rattle.case_calls.proofs.sendings.play_until.Goals as goal
 
 pub offer-requires-clause-class : goal.offer-requires-clause-class
 offer-requires-clause-class g c =
-    let P : Placed → Type 0 = λ p. IsOneOf p.class (g.D.Discipline.policy c.args.discipline.now).classes in
+    let P : Placed → Type 0 = λ p. IsOneOf p.class (g.D.Discipline.view c.args.discipline.now).policy.classes in
     let Q : Policy → Type 0 = λ q. IsOneOf c.class-placed.result.class q.classes in
     subst Q (sym (c.send_before.ensures.policy ∙ c.loop-place.invariant.policy)) (subst P (sym c.class-placed.ensures) (c.requires.held c.in-Some.found.bytes.now))
 
@@ -23,7 +23,7 @@ offer-requires-clause-few g c =
 
 pub offer-requires-clause-later : goal.offer-requires-clause-later
 offer-requires-clause-later g c =
-    moment_come _ c.send_before.new.clock c.loop-place.place c.max-at.result c.max-at.result (g.D.Discipline.moment c.send_before.new.discipline) c.max-at.result
+    moment_come _ c.send_before.new.clock c.loop-place.place c.max-at.result c.max-at.result (g.D.Discipline.view c.send_before.new.discipline).moment c.max-at.result
     (g.met.D.Discipline.moments c.send_before.new.discipline) (omega arith) (c.send_before.ensures.at c.loop-place.place c.loop-place.invariant.at)
 
 pub loop-place-preserved : goal.loop-place-preserved

@@ -7,7 +7,7 @@ abbrev pub invariant-loop-place : goal.invariant-loop-place
 invariant-loop-place g l = record {
   order : l.latest ≤ l.moment;
   drawn : l.words.drawn ≤ l.place;
-  rate : HasRate (g.D.Discipline.link_rate l.discipline) l.clock.rate;
-  policy : g.D.Discipline.policy l.discipline ≡ g.D.Discipline.policy l.fn.discipline;
-  at : IsAt (g.D.Discipline.stands l.discipline) l.clock l.place l.latest l.latest;
+  rate : HasRate (g.D.Discipline.view l.discipline).link_rate l.clock.rate;
+  policy : (g.D.Discipline.view l.discipline).policy ≡ (g.D.Discipline.view l.fn.discipline).policy;
+  at : IsAt (g.D.Discipline.view l.discipline).represents l.clock l.place l.latest l.latest;
 }

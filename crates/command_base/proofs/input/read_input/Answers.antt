@@ -1,20 +1,20 @@
 -- The file that is opened is the only one that comes to be.
 use Rattle.std.proofs.Common.{◌≡◌, ◌≤◌, ◌+◌, ◌∙◌, ◌⊎◌, inl, inr, ℕ, List, length, None, Some, subst, sym}
 use Rattle.std.specs.Prelude.{◌≢◌}
-use Rattle.play_base.specs.View.{View, Any, Keeps, NoneAppears, Opened, Unchanged}
+use Rattle.play_base.specs.View.{View, Everything, Keeps, NoneAppears, Opened, Unchanged}
 use Rattle.play_base.proofs.ViewLaws.{opened_then}
 use Rattle.command_base.specs.Configuration.{most_bytes}
 use Rattle.command_base.specs.Input.{OnlyReads, TookFew}
 use Rattle.command_base.proofs.PartLemmas.{new_part, none_some, same_part, there_or_not}
 use Rattle.command_base.proofs.input.read_input.Goals as goal
 
-opened_one : (a b c : View) (name : List ℕ) (file f p : ℕ) → Opened a b 1 name file → Keeps Any (λ f. f ≢ file) b c → NoneAppears b c → a.part f ≡ None
+opened_one : (a b c : View) (name : List ℕ) (file f p : ℕ) → Opened a b 1 name file → Keeps Everything (λ f. f ≢ file) b c → NoneAppears b c → a.part f ≡ None
     → c.part f ≡ Some p → (b.part f ≡ None) ⊎ ((q : ℕ) × (b.part f ≡ Some q)) → (p ≡ 1) × (f ≡ file)
 opened_one a b c name file f p x k none fresh at (inl was) = absurd (none_some p (sym (none f was) ∙ at))
 opened_one a b c name file f p x k none fresh at (inr old) =
     let y = new_part a b 1 name file f old.0 x.is_new fresh old.1 in (sym (same_part old.0 p (sym (k.part f old.0 old.1) ∙ at)) ∙ y.0, y.1)
 
-read_only : (a b c : View) (name : List ℕ) (file : ℕ) → Opened a b 1 name file → Keeps Any (λ f. f ≢ file) b c → NoneAppears b c → TookFew b c file
+read_only : (a b c : View) (name : List ℕ) (file : ℕ) → Opened a b 1 name file → Keeps Everything (λ f. f ≢ file) b c → NoneAppears b c → TookFew b c file
     → OnlyReads a c name
 read_only a b c name file x k none few = record {
   part = λ f p fresh at. (opened_one a b c name file f p x k none fresh at (there_or_not (b.part f))).0;
@@ -42,7 +42,7 @@ returns-in-Ok-clause-only g c =
 
 pub returns-in-Ok-clause-keeps : goal.returns-in-Ok-clause-keeps
 returns-in-Ok-clause-keeps g c =
-    opened_then Any (g.F.Files.view c.args.files.now) (g.F.Files.view c.open.new.self) (g.F.Files.view c.read_whole.new.files) 1 c.args.name.now c.in-Ok.file
+    opened_then Everything (g.F.Files.view c.args.files.now) (g.F.Files.view c.open.new.self) (g.F.Files.view c.read_whole.new.files) 1 c.args.name.now c.in-Ok.file
     c.in-Ok.ensures.opened c.read_whole.ensures.keeps
 
 pub returns-in-Ok-clause-said : goal.returns-in-Ok-clause-said

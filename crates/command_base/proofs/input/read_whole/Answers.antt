@@ -2,7 +2,7 @@ use Rattle.std.proofs.Common.{◌≡◌, ◌∙◌, ◌≤◌, ◌+◌, ◌++◌
 use Rattle.std.specs.Prelude.{◌≢◌, IsSome}
 use Rattle.std.proofs.lemmas.Grind.{common_steps}
 use Rattle.std.proofs.lemmas.List.{length-take}
-use Rattle.play_base.specs.View.{View, Any, Keeps, NoneAppears, Took, Unchanged}
+use Rattle.play_base.specs.View.{View, Everything, Keeps, NoneAppears, Took, Unchanged}
 use Rattle.play_base.proofs.ViewLaws.{keeps_fewer, keeps_trans, same_trans, took_more, still_there, part_of_there}
 use Rattle.command_base.specs.Configuration.{most_bytes}
 use Rattle.command_base.specs.Input.{TookFew}
@@ -30,13 +30,13 @@ few_more a b c file n xs ys few x y = few_taken a c file (xs ++ take n ys)
 
 -- but for the file nothing changes
 record Stays (a b : View) (file : ℕ) : Type 0 where
-  keeps : Keeps Any (λ f. f ≢ file) a b
+  keeps : Keeps Everything (λ f. f ≢ file) a b
   none : NoneAppears a b
   said : b.said ≡ a.said
 
 stays_unchanged : (a b c : View) (file : ℕ) (xs : List ℕ) → Took a b file xs → Unchanged b c → Stays a c file
 stays_unchanged a b c file xs x y = record {
-  keeps = keeps_trans Any (λ f. f ≢ file) a b c x.keeps (keeps_fewer Any Any Any (λ f. f ≢ file) b c (λ n h. tt) (λ f h. tt) y.keeps);
+  keeps = keeps_trans Everything (λ f. f ≢ file) a b c x.keeps (keeps_fewer Everything Everything Everything (λ f. f ≢ file) b c (λ n h. tt) (λ f h. tt) y.keeps);
   none = λ f h. y.none f (x.none f h);
   said = y.said ∙ x.said;
 }

@@ -1,6 +1,6 @@
 use Rattle.std.proofs.Common.{◌≡◌, ◌<◌, ℕ, Bool, true, false, List, length, get_or, arith, inl, ap, sym, subst, ◌∙◌}
 use Rattle.fate_check.specs.declared.reading.Row.{Row}
-use Rattle.fate_judge.specs.Tests.{AreSeen, IsNew, IsNumbered}
+use Rattle.fate_judge.specs.Tests.{AreSeen, IsNewPacket, IsNumbered}
 use Rattle.fate_judge.proofs.Walking.{at_row, before_at, before_more, first_fails, one_more}
 use Rattle.fate_judge.proofs.Counted.{have_one, lacks_one}
 use Rattle.fate_judge.proofs.once.first_again.Goals as goal
@@ -8,7 +8,7 @@ use Rattle.fate_judge.proofs.once.first_again.Goals as goal
 pub returns-then-not-passes : goal.returns-then-not-passes
 returns-then-not-passes c =
     let rows = c.args.rows.now in let i = c.loop-i.i in
-    inl (first_fails IsNew rows i c.loop-i-test.true c.loop-i.invariant.each
+    inl (first_fails IsNewPacket rows i c.loop-i-test.true c.loop-i.invariant.each
     (c.passes.ensures.fails c.if-not-passes.true (before_at rows i) c.loop-i.invariant.stands))
 
 pub loop-i-preserved : goal.loop-i-preserved
@@ -17,7 +17,7 @@ loop-i-preserved c =
     let P : List Row → Type 0 = λ b. AreSeen c.passes.new.self.numbers.items b in
     record {
       stands = subst P (sym (before_more rows i c.loop-i-test.true)) (c.passes.ensures.stands c.if-not-passes.false before c.loop-i.invariant.stands);
-      each = one_more IsNew rows i c.loop-i-test.true c.loop-i.invariant.each (c.passes.ensures.passes c.if-not-passes.false before c.loop-i.invariant.stands);
+      each = one_more IsNewPacket rows i c.loop-i-test.true c.loop-i.invariant.each (c.passes.ensures.passes c.if-not-passes.false before c.loop-i.invariant.stands);
       count = c.passes.ensures.count ∙ c.loop-i.invariant.count;
     }
 

@@ -1,6 +1,6 @@
 use Rattle.std.proofs.Common.{◌∙◌, List, sym, subst, arith}
 use Rattle.fate_check.specs.declared.reading.Row.{Row}
-use Rattle.fate_judge.specs.Order.{IsInOrder, IsOrder}
+use Rattle.fate_judge.specs.Order.{RowIsInOrder, IsOrder}
 use Rattle.fate_judge.specs.Reading.{HasClass, IsRead}
 use Rattle.fate_judge.proofs.Walking.{at_row, before_at, before_more, first_fails, one_more}
 use Rattle.fate_judge.proofs.order.first_out_of_order.Goals as goal
@@ -20,7 +20,7 @@ loop-i-init c = record {
 pub returns-then-not-passes : goal.returns-then-not-passes
 returns-then-not-passes c = λ classes arrived read.
     let rows = c.args.rows.now in let i = c.loop-i.i in
-    first_fails (IsInOrder arrived) rows i c.loop-i-test.true (c.loop-i.invariant.each classes arrived read)
+    first_fails (RowIsInOrder arrived) rows i c.loop-i-test.true (c.loop-i.invariant.each classes arrived read)
     (c.passes.ensures.fails c.if-not-passes.true classes arrived (before_at rows i) (at_row (IsRead classes arrived) rows i c.loop-i-test.true read)
     (c.loop-i.invariant.stands classes arrived read))
 
@@ -35,7 +35,7 @@ loop-i-preserved c =
           subst P (sym (before_more rows i c.loop-i-test.true))
           (c.passes.ensures.stands c.if-not-passes.false classes arrived before (at_row (IsRead classes arrived) rows i c.loop-i-test.true read)
           (c.loop-i.invariant.stands classes arrived read));
-      each = λ classes arrived read. one_more (IsInOrder arrived) rows i c.loop-i-test.true (c.loop-i.invariant.each classes arrived read)
+      each = λ classes arrived read. one_more (RowIsInOrder arrived) rows i c.loop-i-test.true (c.loop-i.invariant.each classes arrived read)
           (c.passes.ensures.passes c.if-not-passes.false classes arrived before (at_row (IsRead classes arrived) rows i c.loop-i-test.true read)
           (c.loop-i.invariant.stands classes arrived read));
     }

@@ -1,6 +1,6 @@
 use Rattle.std.proofs.Common.{rules, arith, length, ◌≡◌}
 use Rattle.flow_filter.specs.declared.entry.Entry6.{Entry6}
-use Rattle.flow_filter.proofs.EntryLemmas.{IsWithin, stands_6}
+use Rattle.flow_filter.proofs.EntryLemmas.{IsInMask, stands_6}
 use Rattle.flow_filter.proofs.entry.entry_of_6.Goals as goal
 
 pub returns-in-V6 : goal.returns-in-V6
@@ -15,12 +15,12 @@ returns-in-V6 c =
       source_mask = c.first_ones-in-V6.result;
       rest = c.rest_of.result;
     } in
-    let to : IsWithin c.in-V6.target_len c.in-V6.target entry.target_mask entry.target = record {
+    let to : IsInMask c.in-V6.target_len c.in-V6.target entry.target_mask entry.target = record {
       own_long = target;
       mask_is = c.first_ones.ensures;
       own_is = c.number_6.ensures;
     } in
-    let from : IsWithin c.in-V6.source_len c.in-V6.source entry.source_mask entry.source = record {
+    let from : IsInMask c.in-V6.source_len c.in-V6.source entry.source_mask entry.source = record {
       own_long = source;
       mask_is = c.first_ones-in-V6.ensures;
       own_is = c.number_6-in-V6.ensures;

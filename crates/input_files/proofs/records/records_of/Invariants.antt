@@ -2,7 +2,7 @@ use Rattle.std.proofs.Common.{◌≡◌, ◌≤◌, ◌-◌, ℕ, List, None, So
 use Rattle.std.specs.Prelude.{IsSome}
 use Rattle.capture_model.specs.Capture.{Record}
 use Rattle.pcap_files.specs.Ahead.{TookSome}
-use Rattle.pcap_files.specs.Reading.{StandsFor, answered}
+use Rattle.pcap_files.specs.Reading.{Represents, answered}
 use Rattle.play_base.specs.View.{SameCounts}
 use Rattle.input_files.specs.Records.{shown_of}
 use Rattle.input_files.proofs.records.records_of.Given as goal
@@ -17,7 +17,7 @@ invariant-records g l = record {
   counted : length l.records ≤ answered l.reader;
   few : length l.records ≤ 4000000;
   read : (bytes : List ℕ) → (g.F.Files.view l.fn.files).left l.file ≡ Some bytes
-      → (records : List Record) × StandsFor (g.F.Files.view l.files) l.reader bytes records × (l.records ≡ map shown_of records);
+      → (records : List Record) × Represents (g.F.Files.view l.files) l.reader bytes records × (l.records ≡ map shown_of records);
 }
 
 abbrev pub decreases-records : goal.decreases-records

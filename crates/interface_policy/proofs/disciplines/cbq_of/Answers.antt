@@ -2,7 +2,7 @@ use Rattle.std.proofs.Common.{◌≤◌, ◌∙◌, List, sym, subst, ap}
 use Rattle.std.specs.Prelude.{All}
 use Rattle.conf_tree.specs.declared.class.Class.{Class}
 use Rattle.cbq_model.specs.declared.CbqClass.{CbqClass}
-use Rattle.cbq_laws.specs.Ways.{IsEightDeep}
+use Rattle.cbq_model.specs.Ways.{IsEightDeep}
 use Rattle.cbq_sharing.specs.Fresh.{IsClass}
 use Rattle.interface_policy.specs.Classes.{cbq_classes}
 use Rattle.interface_policy.proofs.EightDeep.{eight_deep}

@@ -1,7 +1,7 @@
 use Rattle.std.proofs.Common.{List, sym, subst}
 use Rattle.std.specs.Prelude.{All, IfSome}
 use Rattle.conf_tree.specs.declared.class.Class.{Class}
-use Rattle.hfsc_one_leaf.specs.Queue.{IsOneQueue}
+use Rattle.hfsc_order.specs.Queue.{IsOneQueue}
 use Rattle.interface_policy.specs.Classes.{hfsc_classes}
 use Rattle.interface_policy.specs.Sole.{OnlyShares}
 use Rattle.interface_policy.proofs.Leaves.{only_share, sole_is_one}

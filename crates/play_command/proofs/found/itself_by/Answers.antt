@@ -35,7 +35,7 @@ returns-clause-ended g c = λ a x.
       unmarked = λ capture. c.nothing_is_marked_without_conditioners.ensures c.args.found.now capture c.requires.plain;
       plain = c.requires.plain;
     } in
-    found_ended r (g.D.Discipline.stands c.play_by.new.discipline) (g.K.Keeper.told c.play_by.new.keeper) c.play_by.result
+    found_ended r (g.D.Discipline.view c.play_by.new.discipline).represents (g.K.Keeper.told c.play_by.new.keeper) c.play_by.result
     (steps_of r c.play_by.result x (y.opened a x.opened) far (y.named a x.opened) c.play_by.ensures.stays c.requires.distinct c.laws_hold.ensures c.requires.new.configured)
     x y.no_fault c.play_by.ensures.stays.no_fault
     (came r begins (passage_itself r begins itself) _ _ _ c.play_by.ensures.came)

@@ -31,7 +31,7 @@ returns-clause-ended g c = λ a x.
     let begins = begins_of r y.arrivals x far.keeps.tells (y.left a x.opened) in
     let shown = c.shown_by.ensures.come.came in
     let passage = passage_through r _ _ (behind_shown r begins y.first c.requires.marked) shown in
-    found_ended r (g.D.Discipline.stands c.shown_by.new.discipline) (g.K.Keeper.told c.shown_by.new.keeper) c.shown_by.result
+    found_ended r (g.D.Discipline.view c.shown_by.new.discipline).represents (g.K.Keeper.told c.shown_by.new.keeper) c.shown_by.result
     (steps_of r c.shown_by.result x (y.opened a x.opened) far (y.named a x.opened) c.shown_by.ensures.come.stays c.requires.distinct c.laws_hold.ensures c.requires.new.configured)
     x y.no_fault c.shown_by.ensures.come.stays.no_fault
     (came r begins passage _ _ _ shown.holds)

@@ -32,7 +32,7 @@ returns-clause-come g c =
     let fixed = still_fixed v w (record { files = _; file = o.arrivals; marker = _ }) x become later _ _ y.stays.keeps in
     let one = fixed.reference in
     let file = fixed.file_is in
-    let P : View → View → Type 0 = CameOf (setup_of c.args.interface.now c.args.seed) (g.D.Discipline.stands c.play_by.new.discipline) (g.K.Keeper.told c.play_by.new.keeper) o c.play_by.result in
+    let P : View → View → Type 0 = CameOf (setup_of c.args.interface.now c.args.seed) (g.D.Discipline.view c.play_by.new.discipline).represents (g.K.Keeper.told c.play_by.new.keeper) o c.play_by.result in
     let t : Marked = record { view = w; by = x; marking = f.marker.now } in
     let back = marked_back P (record { view = v; by = record { files = _; file = o.arrivals; marker = _ }; marking = c.in-Ok.marker }) t o c.play_by.result i c.args.first.now
     refl file f.few c.in-Ok.ensures.marks y.stays y.came in

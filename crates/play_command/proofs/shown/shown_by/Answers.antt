@@ -13,7 +13,7 @@ returns-then-given-clause-come g c =
     let i = c.args.interface.now in
     let v = g.F.Files.view c.args.files.now in
     let o = c.args.opened.now in
-    let P : View → View → Type 0 = CameOf (setup_of c.args.interface.now c.args.seed) (g.D.Discipline.stands c.marked_by.new.discipline) (g.K.Keeper.told c.marked_by.new.keeper) o c.marked_by.result in
+    let P : View → View → Type 0 = CameOf (setup_of c.args.interface.now c.args.seed) (g.D.Discipline.view c.marked_by.new.discipline).represents (g.K.Keeper.told c.marked_by.new.keeper) o c.marked_by.result in
     shown_through P o c.marked_by.result v _ i c.args.given.now true _ c.if-given.true
     (ap (λ (l : List ℕ). marked_of i l v o.arrivals) c.as_slice-front.ensures.value) c.marked_by.ensures.come
 
@@ -22,7 +22,7 @@ returns-clause-come g c =
     let i = c.args.interface.now in
     let v = g.F.Files.view c.args.files.now in
     let o = c.args.opened.now in
-    let P : View → View → Type 0 = CameOf (setup_of c.args.interface.now c.args.seed) (g.D.Discipline.stands c.marked_converted_by.new.discipline) (g.K.Keeper.told c.marked_converted_by.new.keeper) o c.marked_converted_by.result in
+    let P : View → View → Type 0 = CameOf (setup_of c.args.interface.now c.args.seed) (g.D.Discipline.view c.marked_converted_by.new.discipline).represents (g.K.Keeper.told c.marked_converted_by.new.keeper) o c.marked_converted_by.result in
     shown_through P o c.marked_converted_by.result v _ i c.args.given.now false _ c.if-given.false
     (ap (λ (l : List ℕ). Some (marked_in i l)) c.as_slice-front.ensures.value) c.marked_converted_by.ensures.come
 
@@ -36,7 +36,7 @@ returns-then-not-is_conditioned-clause-come g c =
     let gv = c.args.given.now in
     let v = g.F.Files.view c.args.files.now in
     let o = c.args.opened.now in
-    let P : View → View → Type 0 = CameOf (setup_of c.args.interface.now c.args.seed) (g.D.Discipline.stands c.converted_by.new.discipline) (g.K.Keeper.told c.converted_by.new.keeper) o c.converted_by.result in
+    let P : View → View → Type 0 = CameOf (setup_of c.args.interface.now c.args.seed) (g.D.Discipline.view c.converted_by.new.discipline).represents (g.K.Keeper.told c.converted_by.new.keeper) o c.converted_by.result in
     let plain : is_conditioned i ≡ false = search rules in
     shown_through P o c.converted_by.result v _ i gv false _ (rest_of gv.rest (is_conditioned i) c.requires.marked plain)
     (ap Some (c.as_slice-front.ensures.value ∙ sym (c.nothing_is_marked_without_conditioners.ensures i gv.front.items plain))) c.converted_by.ensures.come

@@ -1,13 +1,13 @@
 use Rattle.std.proofs.Common.{List}
 use Rattle.altq_model.specs.Arrivals.{Captured}
-use Rattle.altq_model.specs.History.{DrawnWords, Happened}
+use Rattle.altq_model.specs.History.{DrawnWords, LabelledEvent}
 use Rattle.play_core.specs.declared.state.Progress.{Progress}
 use Rattle.play_core.proofs.GoingLemmas.{Going, Goes, goes_by, state}
 use Rattle.play_core.proofs.ReadLemmas as lemma
 use Rattle.play_core.proofs.laws.plays_go_on.Given.{Over}
 use Rattle.play_core.proofs.laws.plays_go_on.Goals as goal
 
-abbrev goes : (g : Over) (d : g.row.D.Denot) {arrived : List Captured} {w : DrawnWords} {x : Progress} {h : List Happened} → Going (state g.D.Discipline d w x) arrived h
+abbrev goes : (g : Over) (d : g.row.D.Denot) {arrived : List Captured} {w : DrawnWords} {x : Progress} {h : List LabelledEvent} → Going (state g.D.Discipline d w x) arrived h
     → Goes (state g.D.Discipline d w x) arrived h
 goes g d y = goes_by g.D.Discipline d g.met.D.Discipline.lawful g.met.D.Discipline.steady g.met.D.Discipline.distinct y
 

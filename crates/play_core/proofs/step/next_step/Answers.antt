@@ -1,5 +1,5 @@
 use Rattle.std.proofs.Common.{◌∙◌, sym, subst, arith}
-use Rattle.altq_model.specs.History.{bare}
+use Rattle.altq_model.specs.History.{unlabelled}
 use Rattle.altq_model.specs.Play.{Policy}
 use Rattle.play_core.specs.declared.step.Step.{Step}
 use Rattle.play_core.specs.Steps.{IsSentAt}
@@ -8,13 +8,13 @@ use Rattle.play_core.proofs.step.next_step.Goals as goal
 
 pub returns-then-comes_by-clause-step : goal.returns-then-comes_by-clause-step
 returns-then-comes_by-clause-step g c = λ h s x.
-    offers_now _ c.args.moment (bare h) c.args.arrival (g.met.D.Discipline.lawful c.args.discipline.now h s) cc
+    offers_now _ c.args.moment (unlabelled h) c.args.arrival (g.met.D.Discipline.lawful c.args.discipline.now h s) cc
 
 pub returns-in-Send-clause-step : goal.returns-in-Send-clause-step
 returns-in-Send-clause-step g c = λ h s x.
     let due = c.in-Send.ensures.policy h s x in
-    let P : Step → Type 0 = λ t. IsSentAt (g.D.Discipline.policy c.args.discipline.now) c.args.clock.now c.args.moment (bare h) t in
-    step_is _ c.args.clock.now c.args.moment (bare h) c.args.arrival c.send_at.result (record {
+    let P : Step → Type 0 = λ t. IsSentAt (g.D.Discipline.view c.args.discipline.now).policy c.args.clock.now c.args.moment (unlabelled h) t in
+    step_is _ c.args.clock.now c.args.moment (unlabelled h) c.args.arrival c.send_at.result (record {
       start = c.args.moment;
       first = due.0;
       later = cc;
@@ -26,13 +26,13 @@ returns-in-Send-clause-step g c = λ h s x.
 pub returns-else-comes_by-2-clause-step : goal.returns-else-comes_by-2-clause-step
 returns-else-comes_by-2-clause-step g c = λ h s x.
     let due = c.in-Wait.ensures.policy h s x in
-    let P : Policy → Type 0 = λ p. IsSentAt p c.args.clock.now c.in-Wait.till (bare h) c.what_is_sent.result in
-    step_is _ c.args.clock.now c.args.moment (bare h) c.args.arrival c.what_is_sent.result (record {
+    let P : Policy → Type 0 = λ p. IsSentAt p c.args.clock.now c.in-Wait.till (unlabelled h) c.what_is_sent.result in
+    step_is _ c.args.clock.now c.args.moment (unlabelled h) c.args.arrival c.what_is_sent.result (record {
       start = c.in-Wait.till;
       first = due.0;
       later = cc;
-      sent = subst P c.next.ensures.policy_kept
-          (c.what_is_sent.ensures.sent h (c.next.ensures.histories_kept h s) (choice_later c.args.moment c.in-Wait.till c.args.clock.now (bare h) (omega (arith, due.1)) x));
+      sent = subst P c.next.ensures.unchanged.kind.policy
+          (c.what_is_sent.ensures.sent h (c.next.ensures.unchanged.represents h s) (choice_later c.args.moment c.in-Wait.till c.args.clock.now (unlabelled h) (omega (arith, due.1)) x));
     })
 
 pub returns-in-Send-clause-ticket : goal.returns-in-Send-clause-ticket

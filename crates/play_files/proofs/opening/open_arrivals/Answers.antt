@@ -2,7 +2,7 @@
 use Rattle.std.proofs.Common.{◌∙◌, ℕ, Err, ap, sym, subst, arith}
 use Rattle.std.specs.Prelude.{Result}
 use Rattle.play_base.specs.declared.trouble.Trouble.{Trouble}
-use Rattle.play_base.specs.View.{Any}
+use Rattle.play_base.specs.View.{Everything}
 use Rattle.play_base.proofs.ViewLaws.{opened_then}
 use Rattle.play_files.specs.Opening.{ArrivalsCauses}
 use Rattle.play_files.specs.declared.failing.Unplayed.{Unplayed}
@@ -38,7 +38,7 @@ returns-in-Ok-given_arrivals-clause-far g c =
     (opened_given _ _ _ c.args.name.now c.in-Ok.file c.in-Ok.ensures.opened y.keeps y.none y.said)
 
 pub returns-in-Ok-given_arrivals-clause-keeps : goal.returns-in-Ok-given_arrivals-clause-keeps
-returns-in-Ok-given_arrivals-clause-keeps g c = opened_then Any _ _ _ 2 c.args.name.now c.in-Ok.file c.in-Ok.ensures.opened c.in-Ok-given_arrivals.ensures.keeps
+returns-in-Ok-given_arrivals-clause-keeps g c = opened_then Everything _ _ _ 2 c.args.name.now c.in-Ok.file c.in-Ok.ensures.opened c.in-Ok-given_arrivals.ensures.keeps
 
 pub returns-in-Err-clause-why : goal.returns-in-Err-clause-why
 returns-in-Err-clause-why g c =
@@ -55,7 +55,7 @@ returns-in-Err-clause-far g c =
     (opened_given _ _ _ c.args.name.now c.in-Ok.file c.in-Ok.ensures.opened y.keeps y.none y.said)
 
 pub returns-in-Err-clause-keeps : goal.returns-in-Err-clause-keeps
-returns-in-Err-clause-keeps g c = opened_then Any _ _ _ 2 c.args.name.now c.in-Ok.file c.in-Ok.ensures.opened c.in-Err.ensures.keeps
+returns-in-Err-clause-keeps g c = opened_then Everything _ _ _ 2 c.args.name.now c.in-Ok.file c.in-Ok.ensures.opened c.in-Err.ensures.keeps
 
 -- each file has the part of its name
 pub returns-in-Err-Failed-clause-named : goal.returns-in-Err-Failed-clause-named

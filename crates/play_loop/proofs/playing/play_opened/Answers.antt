@@ -15,7 +15,7 @@ use Rattle.play_loop.specs.Outputs.{AreOpened, TextsAre}
 use Rattle.play_loop.specs.Played.{OfArrivals}
 use Rattle.play_loop.specs.Reading.{StartsOn}
 use Rattle.play_loop.specs.Setup.{IsSound, Setup, setup_of}
-use Rattle.play_loop.specs.Underway.{Moment, moment, shown}
+use Rattle.play_loop.specs.Underway.{Moment, moment}
 use Rattle.play_loop.proofs.CloseLemmas.{broken_at_start, broken_front, broken_off, can_read, close_left, closed_answer, started}
 use Rattle.play_loop.proofs.KeptLemmas.{HasPlayedOn, cause_since, close_played, heads_played, opened_same, records_played, start_played}
 use Rattle.play_loop.proofs.OutputLemmas.{fronts_of_texts, texts_kept}
@@ -28,7 +28,7 @@ use Rattle.play_loop.proofs.playing.play_opened.Goals as goal
 
 -- what is played
 abbrev setup : (g : Over) → g.row.D.Denot → g.row.C.Denot → NameList → (rate seed : ℕ) → Setup
-setup g d k names rate seed = setup_of (g.D.Discipline.policy d) (g.C.Classify.placed k) (g.C.Classify.dressed k) names rate seed
+setup g d k names rate seed = setup_of (g.D.Discipline.view d).policy (g.C.Classify.placed k) (g.C.Classify.dressed k) names rate seed
 
 pub returns-in-Err-clause-broken : goal.returns-in-Err-clause-broken
 returns-in-Err-clause-broken g c =
@@ -48,7 +48,7 @@ pub returns-in-Err-start-clause-broken : goal.returns-in-Err-start-clause-broken
 returns-in-Err-start-clause-broken g c =
     let x : Setup = setup g c.args.discipline.now c.args.classify.now c.args.names.now c.args.rate c.args.words.now.seed in
     let stand = heads g (goal.at.returns-in-Err-start-clause-broken g c).After-start in
-    let P : PlayFault → Type 0 = λ f. IsBrokenOff x (g.D.Discipline.stands c.args.discipline.now) (g.F.Files.view c.args.files.now) (g.F.Files.view c.start.new.files) c.args.opened.now f in
+    let P : PlayFault → Type 0 = λ f. IsBrokenOff x (g.D.Discipline.view c.args.discipline.now).represents (g.F.Files.view c.args.files.now) (g.F.Files.view c.start.new.files) c.args.opened.now f in
     let error : CaptureFault → Result Reader CaptureFault = λ f. Err f in
     subst P (sym c.capture_fault.ensures)
     (broken_at_start _ _ c.args.opened.now c.in-Err-start.fault
@@ -112,7 +112,7 @@ returns-in-Err-play_records-clause-others g c =
 -- once the records were played
 module _ (g : Over) (c : In-Ok-play_records g) where
   abbrev then : Moment
-  then = moment (shown g.D.Discipline.policy g.D.Discipline.stands g.D.Discipline.lists g.D.Discipline.limits g.D.Discipline.link_rate c.play_records.new.discipline) (g.F.Files.view c.play_records.new.files) c.play_records.new.outputs (g.K.Keeper.told c.play_records.new.keeper) c.play_records.new.progress
+  then = moment (g.D.Discipline.view c.play_records.new.discipline) (g.F.Files.view c.play_records.new.files) c.play_records.new.outputs (g.K.Keeper.told c.play_records.new.keeper) c.play_records.new.progress
 
   opened : AreOpened c.play_records.new.outputs c.args.opened.now
   opened = opened_same c.requires.opened c.in-Ok-play_records.ensures.same

@@ -3,11 +3,11 @@ use Rattle.std.proofs.Common.{◌≡◌, ◌++◌, ◌∙◌, inl, inr, ℕ, Lis
 use Rattle.std.specs.Prelude.{Result}
 use Rattle.std.specs.declared.option.Option.{Option}
 use Rattle.altq_model.specs.Arrivals.{Captured, bare_arrival, bare_arrivals}
-use Rattle.altq_model.specs.History.{Happened}
+use Rattle.altq_model.specs.History.{LabelledEvent}
 use Rattle.pcap_files.specs.declared.fault.CaptureFault.{CaptureFault}
 use Rattle.pcap_files.specs.declared.fault.CaptureFault.TheVariants as capture
 use Rattle.pcap_files.specs.declared.record.Found.{Found}
-use Rattle.pcap_files.specs.Reading.{Answers, Counts, Holds, Told, told_by}
+use Rattle.pcap_files.specs.Reading.{Answers, Counts, Holds, RecordTold, told_by}
 use Rattle.play_base.proofs.ViewLaws.{same_refl, same_trans as same_counts}
 use Rattle.play_laws.proofs.ArrivalLemmas.{bare_arrivals_length}
 use Rattle.play_laws.proofs.OneLemmas.{later_arrivals}
@@ -20,7 +20,7 @@ use Rattle.play_loop.specs.Ending.{IsAll}
 use Rattle.play_loop.specs.Kept.{OnlyPlayed}
 use Rattle.play_loop.specs.Reading.{IsRead, StartsOn, arrival_of}
 use Rattle.play_loop.specs.Setup.{Setup, setup_of}
-use Rattle.play_loop.specs.Underway.{DueIs, OfferedIs, StayDue, moment, shown}
+use Rattle.play_loop.specs.Underway.{DueIs, OfferedIs, StayDue, moment}
 use Rattle.play_loop.proofs.KeptLemmas.{cause_since, played_nothing, took_more, wrote_more}
 use Rattle.play_loop.proofs.OutputLemmas.{fronts_files, same_trans}
 use Rattle.play_loop.proofs.PacketLemmas.{before_stays, held_same}
@@ -33,7 +33,7 @@ use Rattle.play_loop.proofs.playing.play_records.Goals as goal
 
 -- what is played
 abbrev setup : (g : Over) → g.row.D.Denot → g.row.C.Denot → NameList → (rate seed : ℕ) → Setup
-setup g d k names rate seed = setup_of (g.D.Discipline.policy d) (g.C.Classify.placed k) (g.C.Classify.dressed k) names rate seed
+setup g d k names rate seed = setup_of (g.D.Discipline.view d).policy (g.C.Classify.placed k) (g.C.Classify.dressed k) names rate seed
 
 pub records-init : goal.records-init
 records-init g c = record {
@@ -176,14 +176,14 @@ lend-record-requires g c = of_some (Holds c.next.new.self) _ c.in-Some.found c.i
 -- one more packet was read, and is the next to be offered
 come : (g : Over) (c : After-arrive-arriving g)
     → IsComing (setup g c.args.discipline.now c.args.classify.now c.args.names.now c.args.progress.now.clock.rate c.args.words.now.seed)
-    (moment (shown g.D.Discipline.policy g.D.Discipline.stands g.D.Discipline.lists g.D.Discipline.limits g.D.Discipline.link_rate c.records.discipline) (g.F.Files.view c.next.new.files)
+    (moment (g.D.Discipline.view c.records.discipline) (g.F.Files.view c.next.new.files)
     (record c.records.outputs { counts = c.arrive-arriving.new.counts }) (g.K.Keeper.told c.records.keeper) c.records.progress) c.records.words
     (StartsOn (g.F.Files.view c.args.files.now) c.args.reader.now) c.next.new.self c.arrive-arriving.result
     (c.records.invariant.reading.0 ++ arrival_of (g.C.Classify.placed c.args.classify.now) c.arrive-arriving.result ∷ []) c.records.invariant.reading.1
 come g c =
     let made = c.arrive-arriving.ensures in
-    let told : Found → Told = told_by c.next.new.self in
-    let R : Told → Type 0 = λ t. IsRead t c.records.latest c.arrive-arriving.result in
+    let told : Found → RecordTold = told_by c.next.new.self in
+    let R : RecordTold → Type 0 = λ t. IsRead t c.records.latest c.arrive-arriving.result in
     coming (told c.in-Some.found) c.arrive-arriving.result c.records.invariant.reading.2 c.next.ensures.some.1.keeps
     (of_some (λ found. Answers (g.F.Files.view c.records.files) (g.F.Files.view c.next.new.files) c.records.reader c.next.new.self (told found)) _ c.in-Some.found c.in-Some.is c.in-Ok.ensures.record)
     (of_some (λ found. Counts c.records.reader c.next.new.self (told found)) _ c.in-Some.found c.in-Some.is c.in-Ok.ensures.counted)
@@ -239,7 +239,7 @@ records-preserved g c =
 pub returns-in-Ok-Late-play_packet-clause-ended : goal.returns-in-Ok-Late-play_packet-clause-ended
 returns-in-Ok-Late-play_packet-clause-ended g c =
     let x : Setup = setup g c.args.discipline.now c.args.classify.now c.args.names.now c.args.progress.now.clock.rate c.args.words.now.seed in
-    let k : List Happened = c.records.invariant.reading.1 in
+    let k : List LabelledEvent = c.records.invariant.reading.1 in
     let more : List Captured = c.records.invariant.reading.0 ++ arrival_of x.place c.arrive-arriving.result ∷ [] in
     let h = come g (goal.at.returns-in-Ok-Late-play_packet-clause-ended g c).After-arrive-arriving in
     let read = took g (goal.at.returns-in-Ok-Late-play_packet-clause-ended g c).After-next in

@@ -14,7 +14,7 @@ use Rattle.play_loop.proofs.playing.play_told.Goals.{In-Ok-write_stats}
 use Rattle.play_loop.proofs.playing.play_told.Goals as goal
 
 abbrev setup : (g : Over) → g.row.D.Denot → g.row.C.Denot → NameList → (rate seed : ℕ) → Setup
-setup g d k names rate seed = setup_of (g.D.Discipline.policy d) (g.C.Classify.placed k) (g.C.Classify.dressed k) names rate seed
+setup g d k names rate seed = setup_of (g.D.Discipline.view d).policy (g.C.Classify.placed k) (g.C.Classify.dressed k) names rate seed
 
 pub returns-in_default-clause-front : goal.returns-in_default-clause-front
 returns-in_default-clause-front g c = λ t rest l records last r s. stopped_empty _ _ c.args.opened.now records c.requires.ready
@@ -39,7 +39,7 @@ returns-in-Err-clause-keeps g c = keeps_played c.args.opened.now c.in-Err.ensure
 
 -- the whole play, told
 told : (g : Over) (c : In-Ok-write_stats g)
-    → Tells (setup g c.args.discipline.now c.args.classify.now c.args.names.now c.args.rate c.args.words.now.seed) (g.D.Discipline.stands c.play_capture.new.discipline)
+    → Tells (setup g c.args.discipline.now c.args.classify.now c.args.names.now c.args.rate c.args.words.now.seed) (g.D.Discipline.view c.play_capture.new.discipline).represents
     (g.K.Keeper.told c.play_capture.new.keeper) (g.F.Files.view c.args.files.now) (g.F.Files.view c.write_stats.new.files) c.args.opened.now c.in-Ok-play_capture.tally.totals
 told g c =
     let P : List Counts → Type 0 = λ ks. Wrote (g.F.Files.view c.play_capture.new.files) (g.F.Files.view c.write_stats.new.files) c.args.opened.now.stats (stats_of c.args.names.now ks) in

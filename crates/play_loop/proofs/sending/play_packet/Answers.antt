@@ -2,13 +2,13 @@
 use Rattle.std.proofs.Common.{◌+◌, ℕ, List, Some, refl, ap, sym, subst, arith}
 use Rattle.altq_model.specs.declared.Placed.{Placed}
 use Rattle.altq_model.specs.Arrivals.{Captured, bare_arrival}
-use Rattle.altq_model.specs.History.{Happened}
+use Rattle.altq_model.specs.History.{LabelledEvent}
 use Rattle.altq_model.specs.Play.{offer_of}
 use Rattle.play_text.specs.Names.{HasClass}
 use Rattle.play_loop.specs.declared.ending.Due.{Due}
 use Rattle.play_loop.specs.Reading.{arrival_of}
 use Rattle.play_loop.specs.Setup.{Setup}
-use Rattle.play_loop.specs.Underway.{DueIs, IsHeld, IsUnderway, Moment, SameOffers, classed, classing, moment, shown}
+use Rattle.play_loop.specs.Underway.{DueIs, IsNextArrival, IsUnderway, Moment, SameOffers, classed, classing, moment}
 use Rattle.play_loop.proofs.KeptLemmas.{then_err, then_ok}
 use Rattle.play_loop.proofs.PacketLemmas.{before_stays, held_arrives, held_class, held_same, not_earlier, offers_it, with_stays}
 use Rattle.play_loop.proofs.TurnLemmas.{begun_of, can_add, moved_on, on}
@@ -61,27 +61,27 @@ add_dropped-requires g c =
 -- the play before the offer, and with it
 module _ (g : Over) (c : In-Ok g) where
   abbrev before : Moment
-  before = moment (shown g.D.Discipline.policy g.D.Discipline.stands g.D.Discipline.lists g.D.Discipline.limits g.D.Discipline.link_rate c.send_due.new.discipline) (g.F.Files.view c.send_due.new.files) c.send_due.new.outputs (g.K.Keeper.told c.send_due.new.keeper) c.send_due.new.progress
+  before = moment (g.D.Discipline.view c.send_due.new.discipline) (g.F.Files.view c.send_due.new.files) c.send_due.new.outputs (g.K.Keeper.told c.send_due.new.keeper) c.send_due.new.progress
 
   abbrev after : Moment
   after = record before {
-    shown = shown g.D.Discipline.policy g.D.Discipline.stands g.D.Discipline.lists g.D.Discipline.limits g.D.Discipline.link_rate c.offer.new.discipline;
+    shown = g.D.Discipline.view c.offer.new.discipline;
     progress = c.offer.new.self;
   }
 
   abbrev played : Setup → Setup
   played x = classed (classing (g.C.Classify.placed c.args.classify.now) (g.C.Classify.dressed c.args.classify.now) c.args.names.now) x
 
-  record IsOffered (x : Setup) (arrived : List Captured) (past : List Happened) : Type 0 where
-    events : List Happened
+  record IsOffered (x : Setup) (arrived : List Captured) (past : List LabelledEvent) : Type 0 where
+    events : List LabelledEvent
     under : IsUnderway x before arrived c.args.words.now events
     same : SameOffers past events
-    held : IsHeld x.place arrived events c.args.arriving.now
+    held : IsNextArrival x.place arrived events c.args.arriving.now
     offer : IsOfferMade x before after arrived c.args.words.now c.offer.new.words events c.args.arriving.now c.in-Ok.dropped
 
-  offered : (x : Setup) (arrived : List Captured) (past : List Happened)
-      → IsUnderway (played x) (moment (shown g.D.Discipline.policy g.D.Discipline.stands g.D.Discipline.lists g.D.Discipline.limits g.D.Discipline.link_rate c.args.discipline.now) (g.F.Files.view c.args.files.now) c.args.outputs.now (g.K.Keeper.told c.args.keeper.now) c.args.progress.now) arrived c.args.words.now past
-      → IsHeld (played x).place arrived past c.args.arriving.now → IsOffered (played x) arrived past
+  offered : (x : Setup) (arrived : List Captured) (past : List LabelledEvent)
+      → IsUnderway (played x) (moment (g.D.Discipline.view c.args.discipline.now) (g.F.Files.view c.args.files.now) c.args.outputs.now (g.K.Keeper.told c.args.keeper.now) c.args.progress.now) arrived c.args.words.now past
+      → IsNextArrival (played x).place arrived past c.args.arriving.now → IsOffered (played x) arrived past
   offered x arrived past u h =
       let d = c.in-Ok-Made.ensures.due x arrived c.args.words.now past u (held_arrives h) in
       let Q : Due → Type 0 = λ z. DueIs z (played x) arrived d.0 (Some c.args.arriving.now.packet.at) in
@@ -96,7 +96,7 @@ module _ (g : Over) (c : In-Ok g) where
         held = held;
         offer = record {
           offered = record { held = held; words = d.1.going.words; back_is = made.told arrived d.0 (arrival_of (played x).place c.args.arriving.now) d.1.going offers };
-          on = record { setup = moved_on d.1.setup offer.policy offer.rate offer.seed; going = made.offered arrived d.0 (arrival_of (played x).place c.args.arriving.now) d.1.going offers };
+          on = record { setup = moved_on d.1.setup offer.kind.policy offer.rate offer.seed; going = made.offered arrived d.0 (arrival_of (played x).place c.args.arriving.now) d.1.going offers };
         };
       }
 

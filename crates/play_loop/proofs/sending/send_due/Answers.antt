@@ -1,11 +1,11 @@
 -- The texts of a play grow with its sendings.
 use Rattle.std.proofs.Common.{◌≡◌, ◌∙◌, ◌∷◌, List, refl, arith}
 use Rattle.altq_model.specs.Arrivals.{Captured, bare_arrivals}
-use Rattle.altq_model.specs.History.{DrawnWords, Happened}
+use Rattle.altq_model.specs.History.{DrawnWords, LabelledEvent}
 use Rattle.play_core.specs.Ended.{IsCutOff}
 use Rattle.play_core.specs.Turns.{arrives, departs}
 use Rattle.play_loop.specs.Setup.{Setup}
-use Rattle.play_loop.specs.Underway.{IsUnderway, moment, shown}
+use Rattle.play_loop.specs.Underway.{IsUnderway, moment}
 use Rattle.play_loop.proofs.KeptLemmas.{adds_nothing, then_err, then_ok}
 use Rattle.play_loop.proofs.TurnLemmas.{IsSent, arrives_same, can_add, counts_up, is_sent, made_of, moved_on, sent_class, sent_fits, still_under, to_setup}
 use Rattle.play_loop.proofs.WrittenLemmas.{broken_sent, written_sent}
@@ -31,7 +31,7 @@ returns-in-Offer-clause-due g c = λ x arrived w g' u e.
     let k = c.turns.invariant.under x arrived w g' u e in
     let t = c.turn.ensures.turned arrived w k.0 k.1.going (e ∙ arrives_same arrived g' k.0 k.2.0) in (
       k.0,
-      still_under k.1 c.turn.result c.turn.ensures.policy c.turn.ensures.rate c.in-Offer.is t.1 k.1.written,
+      still_under k.1 c.turn.result c.turn.ensures.kind.policy c.turn.ensures.rate c.in-Offer.is t.1 k.1.written,
       k.2,
       made_of k.1 c.args.arrival c.turn.result c.in-Offer.is c.turn.ensures.offers t.0,
     )
@@ -41,17 +41,17 @@ returns-in-Late-clause-due g c = λ x arrived w g' u e.
     let k = c.turns.invariant.under x arrived w g' u e in
     let t = c.in-Late.ensures.turned arrived w k.0 k.1.going (e ∙ arrives_same arrived g' k.0 k.2.0) in (
       k.0,
-      record { setup = moved_on k.1.setup c.turn.ensures.policy c.turn.ensures.rate refl; going = t.1; written = k.1.written },
+      record { setup = moved_on k.1.setup c.turn.ensures.kind.policy c.turn.ensures.rate refl; going = t.1; written = k.1.written },
       k.2,
       to_setup k.1.setup (λ p rate seed. IsCutOff p rate seed (bare_arrivals arrived) k.0) t.0,
     )
 
 -- what is sent is an arrival
-sent : (g : Over) (c : In-Send g) {x : Setup} {arrived : List Captured} {w : DrawnWords} {k : List Happened}
-    → IsUnderway x (moment (shown g.D.Discipline.policy g.D.Discipline.stands g.D.Discipline.lists g.D.Discipline.limits g.D.Discipline.link_rate c.turns.discipline) (g.F.Files.view c.turns.files) c.turns.outputs (g.K.Keeper.told c.turns.keeper) c.turns.progress) arrived w k
+sent : (g : Over) (c : In-Send g) {x : Setup} {arrived : List Captured} {w : DrawnWords} {k : List LabelledEvent}
+    → IsUnderway x (moment (g.D.Discipline.view c.turns.discipline) (g.F.Files.view c.turns.files) c.turns.outputs (g.K.Keeper.told c.turns.keeper) c.turns.progress) arrived w k
     → c.args.arrival ≡ arrives arrived k
-    → IsSent x (moment (shown g.D.Discipline.policy g.D.Discipline.stands g.D.Discipline.lists g.D.Discipline.limits g.D.Discipline.link_rate c.turn.new.discipline) (g.F.Files.view c.turns.files) c.turns.outputs (g.K.Keeper.told c.turns.keeper) c.turn.new.self) arrived w k c.in-Send.departure
-sent g c u e = let t = c.in-Send.ensures.turned _ _ _ u.going e in is_sent u c.turn.ensures.policy c.turn.ensures.rate t.0 t.1
+    → IsSent x (moment (g.D.Discipline.view c.turn.new.discipline) (g.F.Files.view c.turns.files) c.turns.outputs (g.K.Keeper.told c.turns.keeper) c.turn.new.self) arrived w k c.in-Send.departure
+sent g c u e = let t = c.in-Send.ensures.turned _ _ _ u.going e in is_sent u c.turn.ensures.kind.policy c.turn.ensures.rate t.0 t.1
 
 pub add_sent-requires : goal.add_sent-requires
 add_sent-requires g c =

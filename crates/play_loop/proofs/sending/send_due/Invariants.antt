@@ -1,22 +1,22 @@
 use Rattle.std.proofs.Common.{◌≡◌, ◌-◌, List, Ok}
 use Rattle.altq_model.specs.Arrivals.{Captured}
-use Rattle.altq_model.specs.History.{DrawnWords, Happened}
+use Rattle.altq_model.specs.History.{DrawnWords, LabelledEvent}
 use Rattle.play_core.specs.Turns.{arrives}
 use Rattle.play_loop.specs.Outputs.{AddsOnly}
 use Rattle.play_loop.specs.Setup.{Setup}
-use Rattle.play_loop.specs.Underway.{Classing, IsUnderway, Moment, SameOffers, classed, classing, moment, shown}
+use Rattle.play_loop.specs.Underway.{Classing, IsUnderway, Moment, SameOffers, classed, classing, moment}
 use Rattle.play_loop.proofs.sending.send_due.Given as goal
 
 abbrev pub invariant-turns : goal.invariant-turns
 invariant-turns g l =
     let c : Classing = classing (g.C.Classify.placed l.classify) (g.C.Classify.dressed l.classify) l.names in
-    let m : Moment = moment (shown g.D.Discipline.policy g.D.Discipline.stands g.D.Discipline.lists g.D.Discipline.limits g.D.Discipline.link_rate l.fn.discipline) (g.F.Files.view l.fn.files) l.fn.outputs (g.K.Keeper.told l.fn.keeper) l.fn.progress in
-    let n : Moment = moment (shown g.D.Discipline.policy g.D.Discipline.stands g.D.Discipline.lists g.D.Discipline.limits g.D.Discipline.link_rate l.discipline) (g.F.Files.view l.files) l.outputs (g.K.Keeper.told l.keeper) l.progress in
+    let m : Moment = moment (g.D.Discipline.view l.fn.discipline) (g.F.Files.view l.fn.files) l.fn.outputs (g.K.Keeper.told l.fn.keeper) l.fn.progress in
+    let n : Moment = moment (g.D.Discipline.view l.discipline) (g.F.Files.view l.files) l.outputs (g.K.Keeper.told l.keeper) l.progress in
     record {
       only : AddsOnly {A = Unit {0}} (g.F.Files.view l.fn.files) (g.F.Files.view l.files) l.fn.outputs l.outputs (Ok tt);
       before : g.K.Keeper.before l.keeper ≡ g.K.Keeper.before l.fn.keeper;
-      under : (x : Setup) (arrived : List Captured) (w : DrawnWords) (k : List Happened) → IsUnderway (classed c x) m arrived w k → l.arrival ≡ arrives arrived k
-          → (h : List Happened) × IsUnderway (classed c x) n arrived w h × SameOffers k h;
+      under : (x : Setup) (arrived : List Captured) (w : DrawnWords) (k : List LabelledEvent) → IsUnderway (classed c x) m arrived w k → l.arrival ≡ arrives arrived k
+          → (h : List LabelledEvent) × IsUnderway (classed c x) n arrived w h × SameOffers k h;
     }
 
 abbrev pub decreases-turns : goal.decreases-turns

@@ -8,7 +8,7 @@ use Rattle.marked_files.specs.Markings.{given}
 use Rattle.marked_files.specs.Through.{with_marks}
 use Rattle.marked_files.proofs.BackLaws.{keeps_back, still_fixed}
 use Rattle.marked_files.proofs.ViewLaws.{Wrapper}
-use Rattle.play_base.specs.View.{Any, Keeps, View}
+use Rattle.play_base.specs.View.{Everything, Keeps, View}
 use Rattle.verify_command.proofs.ArrivalLemmas.{OfLeft, marked_left}
 use Rattle.verify_command.proofs.arrivals.marked_records.Goals as goal
 
@@ -40,8 +40,8 @@ returns-clause-keeps g c =
     let later = given placed_by s.marker.now in
     let n : Wrapper = record { files = s.files.ghost_name; file = s.file; marker = s.marker.ghost_name } in
     let same =
-    (still_fixed v w (record { files = _; file = c.args.file; marker = _ }) n become later Any (λ (f : ℕ). f ≢ c.args.file) y.keeps).reference in
+    (still_fixed v w (record { files = _; file = c.args.file; marker = _ }) n become later Everything (λ (f : ℕ). f ≢ c.args.file) y.keeps).reference in
     let back =
-    keeps_back v w (record { files = _; file = c.args.file; marker = _ }) n become later Any (λ (f : ℕ). f ≢ c.args.file) (λ f k. k) y.keeps in
-    let Q : View → Type 0 = λ u. Keeps Any (λ (f : ℕ). f ≢ c.args.file) v u in
+    keeps_back v w (record { files = _; file = c.args.file; marker = _ }) n become later Everything (λ (f : ℕ). f ≢ c.args.file) (λ f k. k) y.keeps in
+    let Q : View → Type 0 = λ u. Keeps Everything (λ (f : ℕ). f ≢ c.args.file) v u in
     subst Q (search rules) back

@@ -3,7 +3,7 @@ use Rattle.std.proofs.Common.{◌∙◌, ℕ, rules, subst}
 use Rattle.std.specs.Prelude.{◌≢◌}
 use Rattle.pcapng_files.proofs.BackLaws.{Fronted, keeps_back, same_reference}
 use Rattle.pcapng_files.proofs.FrontLaws.{left_self}
-use Rattle.play_base.specs.View.{Any, Keeps, View}
+use Rattle.play_base.specs.View.{Everything, Keeps, View}
 use Rattle.verify_command.proofs.arrivals.records_behind.Goals as goal
 
 pub returns-in-Ok-clause-whole : goal.returns-in-Ok-clause-whole
@@ -23,9 +23,9 @@ returns-in-Ok-clause-keeps g c =
     let t : Fronted = record { view = w; reference = s.files.ghost_name; file = s.file; rest = s.front.rest; front = s.front.bytes.now } in
     let same = same_reference _ _ (record { view = v; reference = _; file = c.args.file; rest = c.args.rest; front = c.args.front.now }) t y.keeps in
     let back =
-    keeps_back Any (λ (f : ℕ). f ≢ c.args.file) (record { view = v; reference = _; file = c.args.file; rest = c.args.rest; front = c.args.front.now }) t
+    keeps_back Everything (λ (f : ℕ). f ≢ c.args.file) (record { view = v; reference = _; file = c.args.file; rest = c.args.rest; front = c.args.front.now }) t
     (λ f k. k) y.keeps in
-    let Q : View → Type 0 = λ u. Keeps Any (λ (f : ℕ). f ≢ c.args.file) v u in
+    let Q : View → Type 0 = λ u. Keeps Everything (λ (f : ℕ). f ≢ c.args.file) v u in
     subst Q (search rules) back
 
 pub returns-in-Err-clause-keeps : goal.returns-in-Err-clause-keeps
@@ -37,7 +37,7 @@ returns-in-Err-clause-keeps g c =
     let t : Fronted = record { view = w; reference = s.files.ghost_name; file = s.file; rest = s.front.rest; front = s.front.bytes.now } in
     let same = same_reference _ _ (record { view = v; reference = _; file = c.args.file; rest = c.args.rest; front = c.args.front.now }) t y.keeps in
     let back =
-    keeps_back Any (λ (f : ℕ). f ≢ c.args.file) (record { view = v; reference = _; file = c.args.file; rest = c.args.rest; front = c.args.front.now }) t
+    keeps_back Everything (λ (f : ℕ). f ≢ c.args.file) (record { view = v; reference = _; file = c.args.file; rest = c.args.rest; front = c.args.front.now }) t
     (λ f k. k) y.keeps in
-    let Q : View → Type 0 = λ u. Keeps Any (λ (f : ℕ). f ≢ c.args.file) v u in
+    let Q : View → Type 0 = λ u. Keeps Everything (λ (f : ℕ). f ≢ c.args.file) v u in
     subst Q (search rules) back

@@ -1,13 +1,14 @@
-use Rattle.std.proofs.Common.{◌≡◌, ◌≤◌, ◌∙◌, ℕ, [], ap, length, subst, sym}
+use Rattle.std.proofs.Common.{◌≡◌, ◌≤◌, ◌∙◌, ℕ, [], ap, length, refl, subst, sym}
+use Rattle.std.specs.Prelude.{Some}
 use Rattle.std.specs.Prelude.{◌↔◌}
-use Rattle.altq_model.specs.History.{bare}
+use Rattle.altq_model.specs.History.{unlabelled}
 use Rattle.altq_model.specs.Link.{link}
 use Rattle.discipline.specs.declared.pick.Pick.{Pick}
 use Rattle.discipline.specs.declared.pick.Pick.TheVariants.{Empty}
 use Rattle.discipline.specs.Laws.{IsDue, NamesHead, Waits}
-use Rattle.class_rows.specs.Rows.{list_in}
+use Rattle.class_rows.specs.Rows.{limit_in, list_in}
 use Rattle.cbq_rounds.specs.Due.{due_in}
-use Rattle.cbq_rounds.specs.Stands.{Ruling, cbq_of}
+use Rattle.cbq_rounds.specs.Stands.{Represents, Ruling, cbq_of}
 use Rattle.cbq_rounds.proofs.DueLemmas.{due_empty, due_names, due_waits}
 use Rattle.cbq_sharing.proofs.HeldLemmas.{are_awake, held_fewer}
 use Rattle.cbq_rounds.proofs.PolicyLemmas.{due_policy}
@@ -55,10 +56,10 @@ returns-clause-waits g c =
 pub returns-clause-policy : goal.returns-clause-policy
 returns-clause-policy g c = λ h s o.
     let d : Ruling g.row.Q.Denot = c.args.self.now in
-    let P : Pick → Type 0 = λ p. IsDue (cbq_of g.Q.QueueRule.says d) (bare h) c.args.now p in
+    let P : Pick → Type 0 = λ p. IsDue (cbq_of g.Q.QueueRule.says d) (unlabelled h) c.args.now p in
     subst P (sym (picked g (goal.at.returns-clause-policy g c).After-pick_of))
     (due_policy g.Q.QueueRule.stands g.Q.QueueRule.says (record { ruling = d; history = h; stood = s }) c.args.clock.now
-    (record { same_rate = c.requires.rate; same_link = sym o.link ∙ ap (λ (r : ℕ). link r (bare h)) c.requires.rate }) c.args.now c.requires.free)
+    (record { same_rate = c.requires.rate; same_link = sym o.link ∙ ap (λ (r : ℕ). link r (unlabelled h)) c.requires.rate }) c.args.now c.requires.free)
 
 pub invariant_of-self : goal.invariant_of-self
 invariant_of-self g c = record {
@@ -74,5 +75,17 @@ invariant_of-self g c = record {
   rings = c.self.invariant.rings;
 }
 
-pub returns-clause-dues_kept : goal.returns-clause-dues_kept
-returns-clause-dues_kept g c = λ clock t. ap (λ (d : Ruling g.row.Q.Denot). due_in d.shares (list_in d.rows) clock t) c.self.view_is
+pub returns-clause-unchanged : goal.returns-clause-unchanged
+returns-clause-unchanged g c = record {
+  kind = record {
+    policy = ap (λ (v : Ruling g.row.Q.Denot). cbq_of g.Q.QueueRule.says v) c.self.view_is;
+    limits = ap (λ (v : Ruling g.row.Q.Denot). limit_in g.Q.QueueRule.most v.rows) c.self.view_is;
+    link_rate = ap (λ (v : Ruling g.row.Q.Denot). Some v.shares.rate) c.self.view_is;
+    fixed = refl;
+  };
+  lists = λ k. ap (λ (v : Ruling g.row.Q.Denot). list_in v.rows k) c.self.view_is;
+  represents = λ h s. subst (λ (v : Ruling g.row.Q.Denot). Represents g.Q.QueueRule.stands g.Q.QueueRule.says v h) (sym c.self.view_is) s;
+  due = λ clock t. ap (λ (v : Ruling g.row.Q.Denot). due_in v.shares (list_in v.rows) clock t) c.self.view_is;
+  moment = refl;
+  ended = ap (λ (v : Ruling g.row.Q.Denot). v.shares.ended) c.self.view_is;
+}

@@ -1,12 +1,12 @@
 use Rattle.std.proofs.Common.{◌≡◌, ◌<◌, ◌-◌, ◌^◌, ◌∙◌, List, ◌∷◌, ap, arith, length, subst, sym}
-use Rattle.altq_model.specs.History.{Happened, bare}
+use Rattle.altq_model.specs.History.{LabelledEvent, unlabelled}
 use Rattle.leaf_queue.specs.declared.node.Entry.{Entry}
 use Rattle.class_rows.specs.Rows.{list_in}
 use Rattle.discipline.specs.Laws.{IsAnswer, arrival_with, entry, offer_of}
 use Rattle.discipline.specs.Moments.{IsOffer}
 use Rattle.cbq_model.proofs.Places.{is_below}
 use Rattle.cbq_sharing.specs.Waiting.{AreSized}
-use Rattle.cbq_rounds.specs.Stands.{Ruling, Stands, cbq_of}
+use Rattle.cbq_rounds.specs.Stands.{Ruling, Represents, cbq_of}
 use Rattle.cbq_sharing.proofs.HeldLemmas.{offer_held}
 use Rattle.cbq_rounds.proofs.StandsLemmas.{offer_others, offer_sized, offer_stands, same_in}
 use Rattle.cbq_sharing.proofs.WaitLemmas.{offer_waiting}
@@ -44,10 +44,10 @@ put-requires g c =
 
 pub returns-clause-history : goal.returns-clause-history
 returns-clause-history g c =
-    let P : Ruling g.row.Q.Denot → Type 0 = λ d. (h : List Happened) → Stands g.Q.QueueRule.stands g.Q.QueueRule.says d h → IsOffer (arrival_with c.args.class c.args.len c.args.prec c.args.now) (bare h)
+    let P : Ruling g.row.Q.Denot → Type 0 = λ d. (h : List LabelledEvent) → Represents g.Q.QueueRule.stands g.Q.QueueRule.says d h → IsOffer (arrival_with c.args.class c.args.len c.args.prec c.args.now) (unlabelled h)
     → c.args.words.now.drawn < 2 ^ 64 - 1
-    → IsAnswer (cbq_of g.Q.QueueRule.says d) (bare h) c.args.words.now (arrival_with c.args.class c.args.len c.args.prec c.args.now) c.offer-verdict.result c.offer-verdict.new.words
-    × Stands g.Q.QueueRule.stands g.Q.QueueRule.says (record { shares = c.self.inside.shares; rows = c.offer-verdict.new.self })
+    → IsAnswer (cbq_of g.Q.QueueRule.says d) (unlabelled h) c.args.words.now (arrival_with c.args.class c.args.len c.args.prec c.args.now) c.offer-verdict.result c.offer-verdict.new.words
+    × Represents g.Q.QueueRule.stands g.Q.QueueRule.says (record { shares = c.self.inside.shares; rows = c.offer-verdict.new.self })
     (offer_of (cbq_of g.Q.QueueRule.says d) h c.args.ticket c.args.words.now (arrival_with c.args.class c.args.len c.args.prec c.args.now) ∷ h) in
     subst P c.self.view_is (λ h s o few. offer_stands g.Q.QueueRule.stands g.Q.QueueRule.says g.Q.QueueRule.most
     (record { shares = c.self.inside.shares; rows = c.self.inside.rows }) c.offer-verdict.new.self h
@@ -61,4 +61,4 @@ returns-clause-history g c =
       after = c.offer-verdict.new.words;
       verdict = c.offer-verdict.result;
     })
-    c.offer-verdict.ensures.same s o (c.offer-verdict.ensures.told h s.told few))
+    c.offer-verdict.ensures.same s o (c.offer-verdict.ensures.recorded h s.recorded few))

@@ -1,7 +1,7 @@
 use Rattle.std.proofs.Common.{◌≡◌, ◌∙◌, ℕ, List, ◌∷◌, ap, arith, get_or, length, max, refl, subst, sym}
 use Rattle.std.specs.Prelude.{is_none}
 use Rattle.std.specs.declared.option.Option.{Option}
-use Rattle.altq_model.specs.History.{Happened, bare}
+use Rattle.altq_model.specs.History.{LabelledEvent, unlabelled}
 use Rattle.altq_model.specs.Link.{end_of}
 use Rattle.leaf_queue.specs.declared.node.Entry.{Entry}
 use Rattle.class_rows.specs.Rows.{list_in}
@@ -10,7 +10,7 @@ use Rattle.discipline.specs.Moments.{IsChoice}
 use Rattle.cbq_rounds.specs.Due.{due_in}
 use Rattle.cbq_estimator.specs.Estimate.{Estimate}
 use Rattle.cbq_sharing.specs.Shared.{Shared, no_estimate}
-use Rattle.cbq_rounds.specs.Stands.{Ruling, Stands}
+use Rattle.cbq_rounds.specs.Stands.{Ruling, Represents}
 use Rattle.cbq_rounds.proofs.DueLemmas.{SendsPicked, sends_picked}
 use Rattle.cbq_rounds.proofs.StandsLemmas.{IsDueSending, after_steps, kept_end, none_of, ruling_after, sent_stands}
 use Rattle.cbq_sharing.proofs.WaitLemmas.{first_sized, sent_waiting}
@@ -100,9 +100,9 @@ returns-clause-history g c =
     c.requires.free rate due in
     let steps = after_steps d.shares (list_in d.rows) c.args.clock.now c.args.sending c.is_none-emptied.result c.max-end.result c.gain_awake.new.shares c.pay.new.self
     c.set_last.new.self c.tell.new.self sends.place c.gain_awake.ensures.gains c.pay.ensures c.set_last.ensures c.tell.ensures.told in
-    let P : Ruling g.row.Q.Denot → Type 0 = λ v. (h : List Happened) → Stands g.Q.QueueRule.stands g.Q.QueueRule.says v h
-    → IsChoice c.args.sending.start c.args.clock.now (bare h)
-    → Stands g.Q.QueueRule.stands g.Q.QueueRule.says (record { shares = c.tell.new.self; rows = c.take.new.self }) (sent_of c.args.sending ∷ h) in
+    let P : Ruling g.row.Q.Denot → Type 0 = λ v. (h : List LabelledEvent) → Represents g.Q.QueueRule.stands g.Q.QueueRule.says v h
+    → IsChoice c.args.sending.start c.args.clock.now (unlabelled h)
+    → Represents g.Q.QueueRule.stands g.Q.QueueRule.says (record { shares = c.tell.new.self; rows = c.take.new.self }) (sent_of c.args.sending ∷ h) in
     subst P c.self.view_is (λ h s o.
     let w : IsDueSending g.Q.QueueRule.stands g.Q.QueueRule.says = record {
       from = record { ruling = d; history = h; stood = s };
@@ -116,7 +116,7 @@ returns-clause-history g c =
       due = due;
     } in
     sent_stands g.Q.QueueRule.stands g.Q.QueueRule.says w g.Q.QueueRule.most c.take.new.self c.tell.new.self c.max-end.result c.is_none-emptied.result c.take.ensures.same
-    (c.take.ensures.told h s.told _ _ refl refl)
+    (c.take.ensures.recorded h s.recorded _ _ refl refl)
     (none_of c.head.result c.is_none-emptied.result c.is_none-emptied.ensures ∙ ap (λ (e : Option Entry). is_none e) c.head.ensures)
     (c.max-end.ensures ∙ ap (λ (n : ℕ). max n c.last_end.result) c.requires.end
     ∙ ap (λ (n : ℕ). max (end_of c.args.clock.now.rate c.args.clock.now.link c.args.sending.start c.args.sending.len) n) c.last_end.ensures.end

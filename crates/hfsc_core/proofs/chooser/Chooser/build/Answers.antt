@@ -1,7 +1,7 @@
 use Rattle.std.proofs.Common.{◌∙◌, subst, List, []}
 use Rattle.std.specs.Prelude.{Option}
 use Rattle.service_curve.specs.declared.Curve.{Curve}
-use Rattle.hfsc_eligible.specs.Eligible.{StandsFor as HoldsReal}
+use Rattle.hfsc_eligible.specs.Eligible.{Represents as HoldsReal}
 use Rattle.hfsc_core.proofs.Keeping.{new_stands}
 use Rattle.hfsc_core.proofs.chooser.Chooser.build.Goals as goal
 

@@ -24,7 +24,7 @@ invariant_of-result g c =
         [],
         record {
           stands = c.in_ok-chooser.ensures.stands;
-          shown = λ class. seen_lens (list_in rows class) [] (c.in_ok-rows.ensures.told.shown class).packets;
+          shown = λ class. seen_lens (list_in rows class) [] (c.in_ok-rows.ensures.recorded.shown class).packets;
           count = refl;
         },
       );

@@ -5,13 +5,13 @@ use Rattle.ranking.specs.Ranking.{order_of}
 use Rattle.ranking.proofs.Orders.{find_more, find_hit}
 use Rattle.hfsc_model.specs.RealTime.{has_come}
 use Rattle.hfsc_groups.specs.Late.{late_keys}
-use Rattle.hfsc_groups.proofs.Calm.{calm_open}
+use Rattle.hfsc_groups.proofs.NeverLimited.{never_limited_open}
 use Rattle.hfsc_groups.proofs.group.Group.first_open.Goals as goal
 
-pub returns-then-is_calm : goal.returns-then-is_calm
-returns-then-is_calm c =
+pub returns-then-is_never_limited : goal.returns-then-is_never_limited
+returns-then-is_never_limited c =
     c.front.ensures ∙ ap (λ (xs : List ℕ). slice_get xs 0) c.as_slice.ensures
-    ∙ calm_open c.args.self.now c.args.now (c.is_calm.ensures c.if-is_calm.true) c.requires
+    ∙ never_limited_open c.args.self.now c.args.now (c.is_never_limited.ensures c.if-is_never_limited.true) c.requires
 
 pub returns-then-has_come : goal.returns-then-has_come
 returns-then-has_come c =

@@ -1,6 +1,6 @@
 use Rattle.std.proofs.Common.{◌++◌, ◌+◌, ◌∙◌, ap, ℕ, List, take, drop, arith}
 use Rattle.std.proofs.lemmas.Grind.{common_steps}
-use Rattle.marked_files.specs.Held.{Held}
+use Rattle.marked_files.specs.Held.{PendingBytes}
 use Rattle.marked_files.specs.Metering.{frame_by, meter_of}
 use Rattle.marked_files.proofs.FrameLaws.{Buffer, IsMarked, marked_pending, marked_ready, replaced}
 use Rattle.marked_files.proofs.Meters.{length-frame_by}
@@ -19,8 +19,8 @@ returns c =
       long = grind (arith, common_steps);
     } in
     record {
-      ready = marked_ready f b n _ _ m ∙ ap (λ (h : Held). h.ready ++ (take 16 h.pending ++ f (take n (drop 16 h.pending)))) c.self.view_is;
-      pending = marked_pending f b n _ _ m ∙ ap (λ (h : Held). drop (16 + n) h.pending) c.self.view_is;
+      ready = marked_ready f b n _ _ m ∙ ap (λ (h : PendingBytes). h.ready ++ (take 16 h.pending ++ f (take n (drop 16 h.pending)))) c.self.view_is;
+      pending = marked_pending f b n _ _ m ∙ ap (λ (h : PendingBytes). drop (16 + n) h.pending) c.self.view_is;
       meters = c.mark_at.ensures.meters;
       sound = c.mark_at.ensures.sound;
     }

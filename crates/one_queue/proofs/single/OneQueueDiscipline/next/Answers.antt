@@ -1,6 +1,6 @@
 use Rattle.std.proofs.Common.{◌≡◌, ◌∙◌, ℕ, [], ap, sym, subst}
 use Rattle.std.specs.Prelude.{◌↔◌}
-use Rattle.altq_model.specs.History.{bare}
+use Rattle.altq_model.specs.History.{unlabelled}
 use Rattle.discipline.specs.declared.pick.Pick.{Pick}
 use Rattle.discipline.specs.declared.pick.Pick.TheVariants.{Empty}
 use Rattle.discipline.specs.Laws.{IsDue, NamesHead, Waits}
@@ -31,5 +31,5 @@ returns-clause-waits g c =
 pub returns-clause-policy : goal.returns-clause-policy
 returns-clause-policy g c = λ h s o.
     let d = c.args.self.now in
-    subst (λ (p : Pick). IsDue (policy_of g.Q.QueueRule.says d) (bare h) c.args._now p) (sym (c.head_of.ensures ∙ ap due_of c.self.view_is))
+    subst (λ (p : Pick). IsDue (policy_of g.Q.QueueRule.says d) (unlabelled h) c.args._now p) (sym (c.head_of.ensures ∙ ap due_of c.self.view_is))
     (due_of_policy g.Q.QueueRule.stands g.Q.QueueRule.says d h c.args._now s)

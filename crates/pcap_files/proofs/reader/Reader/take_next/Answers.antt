@@ -1,6 +1,6 @@
 use Rattle.std.proofs.Common.{◌≡◌, ℕ, List, ◌∙◌, ap, sym, subst, refl, arith, length}
 use Rattle.capture_model.specs.Capture.{step, place_after, Fault, damage}
-use Rattle.pcap_files.specs.Ahead.{Held}
+use Rattle.pcap_files.specs.Ahead.{HeldBytes}
 use Rattle.pcap_files.specs.Forms.{form}
 use Rattle.pcap_files.specs.Reading.{IsCause}
 use Rattle.pcap_files.proofs.ReaderLemmas.{took_some, took_into, took_twice, pending_took, stands_at, stands_reads, stands_with, cut_reads, answered}
@@ -94,9 +94,9 @@ returns-in-Ok-clause-ahead g c = λ holds.
     let self = c.args.self.now in
     let one = c.fill.ensures.idle holds.head in
     let at : List ℕ → Stands = stand_at (form self.head) self.progress.count self.progress.place in
-    let headed = ap (λ (h : Held). at h.waiting) (sym one.1) ∙ ap at (sym c.as_slice.ensures) ∙ sym c.in-Headed.ensures.value in
+    let headed = ap (λ (h : HeldBytes). at h.waiting) (sym one.1) ∙ ap at (sym c.as_slice.ensures) ∙ sym c.in-Headed.ensures.value in
     let whole = holds.whole c.in-Headed.stamp c.in-Headed.captured c.in-Headed.original headed in
-    let two = c.fill-in-Headed.ensures.idle (omega (arith, whole, ap (λ (h : Held). length h.waiting) one.1)) in
+    let two = c.fill-in-Headed.ensures.idle (omega (arith, whole, ap (λ (h : HeldBytes). length h.waiting) one.1)) in
     two.0 ∙ one.0
 
 pub take_record-requires-clause-counted : goal.take_record-requires-clause-counted

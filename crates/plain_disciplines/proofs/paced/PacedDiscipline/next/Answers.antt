@@ -1,6 +1,6 @@
 use Rattle.std.proofs.Common.{◌∙◌, ap, arith, sym, refl}
 use Rattle.std.specs.Prelude.{Some, slice_get}
-use Rattle.altq_model.specs.History.{bare}
+use Rattle.altq_model.specs.History.{unlabelled}
 use Rattle.class_rows.specs.Rows.{answering, list_in}
 use Rattle.plain_disciplines.specs.Paced.{Pacing}
 use Rattle.plain_disciplines.proofs.PacedLemmas.{choice_is, due_sent, due_till, empty_of, first_none, first_some, front_of, no_head, not_all_empty, now_is, packets_here, till_is, waits_at}
@@ -15,7 +15,7 @@ pub returns-in_default-clause-policy : goal.returns-in_default-clause-policy
 returns-in_default-clause-policy g c = λ h s _.
     let d = c.args.self.now in
     let none = no_head _ (front_of _ d c.first-class.result c.head.result c.self.view_is c.first-class.ensures.first c.head.ensures ∙ c.in_default.is) in
-    first_none d.rows.first d.gap (answering g.Q.QueueRule.says d.rows) _ (bare h) c.args.now (packets_here g.Q.QueueRule.stands g.Q.QueueRule.says d h s) none
+    first_none d.rows.first d.gap (answering g.Q.QueueRule.says d.rows) _ (unlabelled h) c.args.now (packets_here g.Q.QueueRule.stands g.Q.QueueRule.says d h s) none
 
 pub returns-then-till-now-clause-due : goal.returns-then-till-now-clause-due
 returns-then-till-now-clause-due g c =
@@ -40,7 +40,7 @@ returns-then-till-now-clause-policy g c = λ h s _.
     let d = c.args.self.now in
     let front = front_of _ d c.first-class.result c.head.result c.self.view_is c.first-class.ensures.first c.head.ensures ∙ c.in-Some.is in
     let till = till_is _ _ c.args.now _ c.self.invariant.gap_there (ap (λ (v : Pacing _). v.gap) c.self.view_is) c.div_ceil.ensures in (
-      first_some d.rows.first d.gap (answering g.Q.QueueRule.says d.rows) _ _ (bare h) c.args.now (packets_here g.Q.QueueRule.stands g.Q.QueueRule.says d h s) front ∙ ap Some (sym till),
+      first_some d.rows.first d.gap (answering g.Q.QueueRule.says d.rows) _ _ (unlabelled h) c.args.now (packets_here g.Q.QueueRule.stands g.Q.QueueRule.says d h s) front ∙ ap Some (sym till),
       c.if-till-now.true,
     )
 
@@ -68,6 +68,6 @@ returns-clause-policy g c = λ h s _.
     let gap = ap (λ (v : Pacing _). v.gap) c.self.view_is in
     let till = till_is _ _ c.args.now _ c.self.invariant.gap_there gap c.div_ceil.ensures in
     let now = now_is _ c.args.now _ (omega (arith, gap, c.self.invariant.gap_there)) till c.if-till-now.false in (
-      first_some d.rows.first d.gap (answering g.Q.QueueRule.says d.rows) _ _ (bare h) c.args.now (packets_here g.Q.QueueRule.stands g.Q.QueueRule.says d h s) front ∙ ap Some now,
+      first_some d.rows.first d.gap (answering g.Q.QueueRule.says d.rows) _ _ (unlabelled h) c.args.now (packets_here g.Q.QueueRule.stands g.Q.QueueRule.says d h s) front ∙ ap Some now,
       choice_is _ _ _ (c.first-class.ensures.first ∙ ap (λ (v : Pacing _). v.rows.first) c.self.view_is),
     )

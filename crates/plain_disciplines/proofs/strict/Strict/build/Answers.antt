@@ -2,7 +2,7 @@ use Rattle.std.proofs.Common.{◌≡◌, ◌∙◌, ℕ, Bool, List, ap, arith, 
 use Rattle.std.specs.Prelude.{true}
 use Rattle.altq_model.specs.Policies.{strict}
 use Rattle.leaf_queue.specs.Queue.{by_queues}
-use Rattle.class_rows.specs.Rows.{Rowed, holding, limit_at, limits_of}
+use Rattle.class_rows.specs.Rows.{ClassQueuesView, holding, limit_at, limits_of}
 use Rattle.class_rows.proofs.RowLemmas.{all_limits}
 use Rattle.plain_disciplines.specs.Strict.{classes_from}
 use Rattle.plain_disciplines.proofs.StrictLemmas.{all_hold, plain}
@@ -10,14 +10,14 @@ use Rattle.plain_disciplines.proofs.strict.Strict.build.Goals as goal
 
 pub returns-clause-empty : goal.returns-clause-empty
 returns-clause-empty g c = record {
-  told = c.in_ok-rows.ensures.told;
+  recorded = c.in_ok-rows.ensures.recorded;
   orderly = tt;
   plain = plain g.Q.QueueRule.stands g.Q.QueueRule.says (record { rule = c.args.rule; rows = c.in_ok-rows.rows });
 }
 
 pub returns-clause-policy : goal.returns-clause-policy
 returns-clause-policy g c =
-    let r : Rowed g.row.Q.Denot = c.in_ok-rows.rows in
+    let r : ClassQueuesView g.row.Q.Denot = c.in_ok-rows.rows in
     let n : ℕ = length c.args.queues.items in
     let count : c.len.result ≡ n = omega arith in
     let all : r.holds ≡ replicate n true = c.in_ok-rows.ensures.holds ∙ c.in_ok-holds.ensures.items_if_clones_equal (λ y e. e) ∙ ap (λ k. replicate k true) count in
@@ -28,7 +28,7 @@ returns-clause-policy g c =
 
 pub returns-clause-limits : goal.returns-clause-limits
 returns-clause-limits g c =
-    let r : Rowed g.row.Q.Denot = c.in_ok-rows.rows in
+    let r : ClassQueuesView g.row.Q.Denot = c.in_ok-rows.rows in
     let n : ℕ = length c.args.queues.items in
     let count : c.len.result ≡ n = omega arith in
     let all : r.holds ≡ replicate n true = c.in_ok-rows.ensures.holds ∙ c.in_ok-holds.ensures.items_if_clones_equal (λ y e. e) ∙ ap (λ k. replicate k true) count in

@@ -1,6 +1,6 @@
 use Rattle.std.proofs.Common.{◌≡◌, ◌∙◌, ℕ, [], ap, sym, subst}
 use Rattle.std.specs.Prelude.{◌↔◌}
-use Rattle.altq_model.specs.History.{bare}
+use Rattle.altq_model.specs.History.{unlabelled}
 use Rattle.discipline.specs.declared.pick.Pick.{Pick}
 use Rattle.discipline.specs.declared.pick.Pick.TheVariants.{Empty}
 use Rattle.discipline.specs.Laws.{IsDue, NamesHead, Waits}
@@ -32,7 +32,7 @@ pub returns-clause-policy : goal.returns-clause-policy
 returns-clause-policy g c = λ h s _.
     let d = c.args.self.now in
     let due : c.pick_from.result ≡ strict_due d = c.pick_from.ensures.due ∙ ap strict_due c.self.view_is in
-    let P : Pick → Type 0 = λ p. IsDue (strict_of g.Q.QueueRule.says d) (bare h) c.args._now p in
+    let P : Pick → Type 0 = λ p. IsDue (strict_of g.Q.QueueRule.says d) (unlabelled h) c.args._now p in
     subst P (sym due) (due_of_policy g.Q.QueueRule.stands g.Q.QueueRule.says d h c.args._now s)
 
 pub returns-clause-due : goal.returns-clause-due

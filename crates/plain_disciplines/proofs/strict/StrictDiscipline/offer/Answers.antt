@@ -1,17 +1,17 @@
 use Rattle.std.proofs.Common.{◌<◌, ◌-◌, ◌^◌, List, ◌∷◌, subst}
-use Rattle.altq_model.specs.History.{Happened, bare}
+use Rattle.altq_model.specs.History.{LabelledEvent, unlabelled}
 use Rattle.discipline.specs.Laws.{IsAnswer, arrival_with, entry, offer_of}
 use Rattle.discipline.specs.Moments.{IsOffer}
-use Rattle.plain_disciplines.specs.Strict.{Ordered, Stands, strict_of}
+use Rattle.plain_disciplines.specs.Strict.{Ordered, Represents, strict_of}
 use Rattle.plain_disciplines.proofs.StrictLemmas.{offer_stands}
 use Rattle.plain_disciplines.proofs.strict.StrictDiscipline.offer.Goals as goal
 
 pub returns-clause-history : goal.returns-clause-history
 returns-clause-history g c =
-    let P : Ordered g.row.Q.Denot → Type 0 = λ d. (h : List Happened) → Stands g.Q.QueueRule.stands g.Q.QueueRule.says d h → IsOffer (arrival_with c.args.class c.args.len c.args.prec c.args.now) (bare h)
+    let P : Ordered g.row.Q.Denot → Type 0 = λ d. (h : List LabelledEvent) → Represents g.Q.QueueRule.stands g.Q.QueueRule.says d h → IsOffer (arrival_with c.args.class c.args.len c.args.prec c.args.now) (unlabelled h)
     → c.args.words.now.drawn < 2 ^ 64 - 1
-    → IsAnswer (strict_of g.Q.QueueRule.says d) (bare h) c.args.words.now (arrival_with c.args.class c.args.len c.args.prec c.args.now) c.offer.result c.offer.new.words
-    × Stands g.Q.QueueRule.stands g.Q.QueueRule.says (record { rule = c.self.inside.rule; rows = c.offer.new.self })
+    → IsAnswer (strict_of g.Q.QueueRule.says d) (unlabelled h) c.args.words.now (arrival_with c.args.class c.args.len c.args.prec c.args.now) c.offer.result c.offer.new.words
+    × Represents g.Q.QueueRule.stands g.Q.QueueRule.says (record { rule = c.self.inside.rule; rows = c.offer.new.self })
     (offer_of (strict_of g.Q.QueueRule.says d) h c.args.ticket c.args.words.now (arrival_with c.args.class c.args.len c.args.prec c.args.now) ∷ h) in
     subst P c.self.view_is (λ h s o few. offer_stands g.Q.QueueRule.stands g.Q.QueueRule.says g.Q.QueueRule.most
     (record { rule = c.self.inside.rule; rows = c.self.inside.rows }) c.offer.new.self h
@@ -23,4 +23,4 @@ returns-clause-history g c =
       after = c.offer.new.words;
       verdict = c.offer.result;
     })
-    c.offer.ensures.same s o (c.offer.ensures.told h s.told few))
+    c.offer.ensures.same s o (c.offer.ensures.recorded h s.recorded few))

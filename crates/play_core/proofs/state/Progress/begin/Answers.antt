@@ -7,8 +7,8 @@ use Rattle.play_core.proofs.state.Progress.begin.Goals as goal
 pub returns-clause-going : goal.returns-clause-going
 returns-clause-going g c = λ arrived w d rise few.
     let same : c.new.result.rate ≡ c.args.rate = ap (λ (k : Clock). k.rate) c.new.ensures in
-    let R : ℕ → Type 0 = λ k. HasRate (g.D.Discipline.link_rate c.args.discipline.now) k in
-    let none = held_none (g.D.Discipline.lists c.args.discipline.now) (g.D.Discipline.policy c.args.discipline.now).classes
+    let R : ℕ → Type 0 = λ k. HasRate (g.D.Discipline.view c.args.discipline.now).link_rate k in
+    let none = held_none (g.D.Discipline.view c.args.discipline.now).lists (g.D.Discipline.view c.args.discipline.now).policy.classes
     (λ k. (g.met.D.Discipline.shows c.args.discipline.now [] c.requires.new k).labels) in
     record {
       begun = record { events = tt; in_time = tt };
@@ -20,8 +20,8 @@ returns-clause-going g c = λ arrived w d rise few.
       latest_is = refl;
       totals = record { arrived = refl; sent = refl; dropped = refl; last_end = refl };
       rate_is = subst R (sym same) c.requires.rate;
-      told = [];
-      stands = c.requires.new;
+      recorded = [];
+      represents = c.requires.new;
       same = refl;
       holds = λ k. tt;
       count = c.in_ok-pool.ensures.count ∙ sym none;

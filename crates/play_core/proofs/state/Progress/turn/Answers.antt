@@ -1,6 +1,6 @@
 use Rattle.std.proofs.Common.{◌≡◌, ◌∙◌, List, max, refl, arith}
 use Rattle.altq_model.specs.Arrivals.{Captured, bare_arrival}
-use Rattle.altq_model.specs.History.{DrawnWords, Happened}
+use Rattle.altq_model.specs.History.{DrawnWords, LabelledEvent}
 use Rattle.play_core.specs.declared.state.Progress.{Progress}
 use Rattle.play_core.specs.declared.step.Step.TheVariants.{End, Offer, Send, Late}
 use Rattle.play_core.proofs.Come.{come_cut, come_end, due_offer}
@@ -10,7 +10,7 @@ use Rattle.play_core.proofs.SendLemmas.{going_sent}
 use Rattle.play_core.proofs.state.Progress.turn.Given.{Over}
 use Rattle.play_core.proofs.state.Progress.turn.Goals as goal
 
-abbrev goes : (g : Over) (d : g.row.D.Denot) {arrived : List Captured} {w : DrawnWords} {x : Progress} {h : List Happened} → Going (state g.D.Discipline d w x) arrived h
+abbrev goes : (g : Over) (d : g.row.D.Denot) {arrived : List Captured} {w : DrawnWords} {x : Progress} {h : List LabelledEvent} → Going (state g.D.Discipline d w x) arrived h
     → Goes (state g.D.Discipline d w x) arrived h
 goes g d y = goes_by g.D.Discipline d g.met.D.Discipline.lawful g.met.D.Discipline.steady g.met.D.Discipline.distinct y
 
@@ -18,7 +18,7 @@ pub next_step-requires-clause-later : goal.next_step-requires-clause-later
 next_step-requires-clause-later g c =
     let y = c.requires.going.3 in
     let moment : c.max-moment.result ≡ max c.args.self.now.clock.link.free c.args.self.now.latest = cc in
-    let l = moment_by (goes g c.args.discipline.now y) (g.met.D.Discipline.moments c.args.discipline.now y.told y.stands) in
+    let l = moment_by (goes g c.args.discipline.now y) (g.met.D.Discipline.moments c.args.discipline.now y.recorded y.represents) in
     omega (arith, l, moment)
 
 pub returns-in-End-clause-turned : goal.returns-in-End-clause-turned
@@ -26,7 +26,7 @@ returns-in-End-clause-turned g c = λ arrived w h y e.
     let u = goes g c.args.discipline.now y in
     let n = c.in-End.ensures in (
       come_end _ _ _ _ _ (come_of u) (step_on End u n.step (cc) e),
-      asked_on (state g.D.Discipline c.next_step.new.discipline w c.args.self.now) u (record { policy = n.policy; limits = n.limits; rate = n.rate }) n.histories n.lists,
+      asked_on (g.D.Discipline.view c.next_step.new.discipline) u n.unchanged,
     )
 
 pub returns-in-Offer-clause-turned : goal.returns-in-Offer-clause-turned
@@ -37,7 +37,7 @@ returns-in-Offer-clause-turned g c = λ arrived w h y e.
         there = there;
         is_due = due_offer _ _ _ _ _ (bare_arrival a) (come_of u) (step_on Offer u n.step (cc) e) (is_bare_arrival arrived h a there).seen;
       },
-      asked_on (state g.D.Discipline c.next_step.new.discipline w c.args.self.now) u (record { policy = n.policy; limits = n.limits; rate = n.rate }) n.histories n.lists,
+      asked_on (g.D.Discipline.view c.next_step.new.discipline) u n.unchanged,
     )
 
 pub returns-in-Late-clause-turned : goal.returns-in-Late-clause-turned
@@ -45,24 +45,24 @@ returns-in-Late-clause-turned g c = λ arrived w h y e.
     let u = goes g c.args.discipline.now y in
     let n = c.in-Late.ensures in (
       come_cut _ _ _ _ _ (come_of u) (step_on Late u n.step (cc) e),
-      asked_on (state g.D.Discipline c.next_step.new.discipline w c.args.self.now) u (record { policy = n.policy; limits = n.limits; rate = n.rate }) n.histories n.lists,
+      asked_on (g.D.Discipline.view c.next_step.new.discipline) u n.unchanged,
     )
 
 pub sent-requires-clause-later : goal.sent-requires-clause-later
 sent-requires-clause-later g c =
     let y = c.requires.going.3 in
     let moment : c.max-moment.result ≡ max c.args.self.now.clock.link.free c.args.self.now.latest = cc in
-    let l = moment_by (goes g c.args.discipline.now y) (g.met.D.Discipline.moments c.args.discipline.now y.told y.stands) in
-    omega (arith, l, moment, c.in-Send.ensures.moment, c.in-Send.ensures.starts c.in-Send.sending refl)
+    let l = moment_by (goes g c.args.discipline.now y) (g.met.D.Discipline.moments c.args.discipline.now y.recorded y.represents) in
+    omega (arith, l, moment, c.in-Send.ensures.unchanged.moment, c.in-Send.ensures.starts c.in-Send.sending refl)
 
 pub overflow_add-self : goal.overflow_add-self
 overflow_add-self g c = let f = few_counts (goes g c.args.discipline.now c.requires.going.3) in grind (arith, f.sent)
 
 pub marked-requires : goal.marked-requires
-marked-requires g c = let y = c.requires.going.3 in front_there c.in-Send.sending.class y (c.in-Send.ensures.ticket y.told y.stands c.in-Send.sending refl)
+marked-requires g c = let y = c.requires.going.3 in front_there c.in-Send.sending.class y (c.in-Send.ensures.ticket y.recorded y.represents c.in-Send.sending refl)
 
 pub take-requires : goal.take-requires
-take-requires g c = let y = c.requires.going.3 in front_there c.in-Send.sending.class y (c.in-Send.ensures.ticket y.told y.stands c.in-Send.sending refl)
+take-requires g c = let y = c.requires.going.3 in front_there c.in-Send.sending.class y (c.in-Send.ensures.ticket y.recorded y.represents c.in-Send.sending refl)
 
 pub returns-clause-turned : goal.returns-clause-turned
 returns-clause-turned g c = λ arrived w h y e.
@@ -71,17 +71,17 @@ returns-clause-turned g c = λ arrived w h y e.
     let n = c.in-Send.ensures in
     let z = c.sent.ensures in
     let moment : c.max-moment.result ≡ max c.args.self.now.clock.link.free c.args.self.now.latest = cc in
-    going_sent {t = state g.D.Discipline c.sent.new.self w _} (still_going _ _ n.histories n.lists u)
+    going_sent {t = state g.D.Discipline c.sent.new.self w _} (still_going _ n.unchanged u)
     (record {
       first = step_on (Send s) u n.step moment e;
-      ticket = n.ticket y.told y.stands s refl;
+      ticket = n.ticket y.recorded y.represents s refl;
       late = omega (arith, n.starts s refl, moment);
       end = n.ends s refl;
       early = n.early s refl;
     })
-    (g.met.D.Discipline.shows c.next_step.new.discipline y.told (n.histories y.told y.stands) s.class)
+    (g.met.D.Discipline.shows c.next_step.new.discipline y.recorded (n.unchanged.represents y.recorded y.represents) s.class)
     (record {
-      kind = record { policy = z.policy ∙ n.policy; limits = z.limits ∙ n.limits; rate = z.rate ∙ n.rate };
+      kind = record { policy = z.kind.policy ∙ n.unchanged.kind.policy; limits = z.kind.limits ∙ n.unchanged.kind.limits; link_rate = z.kind.link_rate ∙ n.unchanged.kind.link_rate; fixed = z.kind.fixed };
       words = refl;
       history = z.history;
       lists_are = z.lists;
@@ -109,4 +109,4 @@ pub returns-clause-number : goal.returns-clause-number
 returns-clause-number g c = λ d q.
     let y = c.requires.going.3 in
     turn_number _ d c.args.self.now.totals.arrived q
-    (number_within c.in-Send.sending.class (goes g c.args.discipline.now y) (c.in-Send.ensures.ticket y.told y.stands c.in-Send.sending refl) c.take.ensures.taken)
+    (number_within c.in-Send.sending.class (goes g c.args.discipline.now y) (c.in-Send.ensures.ticket y.recorded y.represents c.in-Send.sending refl) c.take.ensures.taken)

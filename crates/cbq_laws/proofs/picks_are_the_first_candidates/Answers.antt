@@ -1,5 +1,0 @@
-use Rattle.cbq_laws.proofs.Firsts.{is_first, one_first}
-use Rattle.cbq_laws.proofs.picks_are_the_first_candidates.Goals as goal
-
-pub returns : goal.returns
-returns c = record { pick = is_first; one = one_first }

@@ -1,4 +1,0 @@
-pub mod Nearness
-pub mod Rulings
-pub mod Counting
-pub mod Rules

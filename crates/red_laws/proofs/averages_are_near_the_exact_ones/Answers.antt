@@ -1,5 +1,0 @@
-use Rattle.red_laws.proofs.Nearness.{near_red, near_rio}
-use Rattle.red_laws.proofs.averages_are_near_the_exact_ones.Goals as goal
-
-pub returns : goal.returns
-returns c = record { red = near_red; rio = near_rio }

@@ -1,5 +1,0 @@
-use Rattle.red_laws.proofs.Rules.{red_drops, ecn_tells, rio_drops}
-use Rattle.red_laws.proofs.of_enough_packets_one_is_dropped.Goals as goal
-
-pub returns : goal.returns
-returns c = record { red = red_drops; ecn = ecn_tells; rio = rio_drops }

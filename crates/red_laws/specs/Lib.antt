@@ -1,3 +1,0 @@
-pub mod Exactly
-pub mod Sequence
-pub mod Rows
