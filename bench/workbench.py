@@ -23,7 +23,7 @@ sys.path[:0] = [os.path.join(ROOT, "example"), HERE]
 from bench import taken  # noqa: E402
 from generate import FIRST, captured_bytes, capture_head, record  # noqa: E402
 
-WORK = os.path.join(ROOT, "workbench", "altqwork")
+WORK = os.path.join(ROOT, "python", "altqwork")
 VOICE, GAP = 5004, 290_000  # the port of the calls, and nanoseconds between packets in the mean
 PORTS = {VOICE: 3, 5022: 1, 9000: 3, 8730: 2, 5053: 1, 5060: 1, 5061: 1}  # with how often each is drawn
 CONF = """interface if0 bandwidth 18M hfsc

@@ -20,7 +20,7 @@ import re
 import sys
 
 ROOT = os.path.dirname(os.path.dirname(os.path.abspath(__file__)))
-TOP = "crates|docs|robust|bench|workbench|example"
+TOP = "crates|docs|robust|bench|python|example"
 PATH = re.compile(rf"(?<![\w/.-])(?:\.\./)*((?:{TOP})/[\w./-]*[\w*]|\.ci/run|crates\.txt)")
 IN_CRATE = re.compile(r"(?<![\w/.-])([a-z][a-z0-9_]*)/((?:specs|src|proofs|must-fail)(?:/[\w.-]*\w)*)")
 MADE = re.compile(r"/(out|venv|results)(/|$)")  # what scripts make, and what is built
@@ -75,7 +75,7 @@ def declared():
 def words():
     """All words that stand in the repository outside its pages."""
     found = set(CRATES)
-    scripts = files("workbench/**/*", "robust/*", "bench/*.py", "example/**/*", "docs/*.py", ".ci/*", "crates/*/stdin", "crates/*/data/*", "crates/*/src/**/*.rt")
+    scripts = files("python/**/*", "robust/*", "bench/*.py", "example/**/*", "docs/*.py", ".ci/*", "crates/*/stdin", "crates/*/data/*", "crates/*/src/**/*.rt")
     for path in CODE + [name for name in scripts if not name.endswith((".pcap", ".pcapng", ".png", ".svg", ".gz"))]:
         found |= set(re.findall(r"[A-Za-z_]\w*", text_of(path)))
     return found
@@ -85,7 +85,7 @@ def words():
 def scripted():
     """The words of scripts, of worked plays and of the kit's tools."""
     found = set()
-    for path in files("workbench/**/*.py", "robust/*.py", "bench/*.py", "example/**/*.py", "docs/*.py", "crates/*/stdin", "example/completions/*"):
+    for path in files("python/**/*.py", "robust/*.py", "bench/*.py", "example/**/*.py", "docs/*.py", "crates/*/stdin", "example/completions/*"):
         found |= set(re.findall(r"[A-Za-z_]\w*", text_of(path)))
     return found
 
@@ -162,7 +162,7 @@ def wrong_names(line):
 @functools.lru_cache(maxsize=None)
 def modules():
     """The subcommands of altqwork, each with the file of its module."""
-    return dict(re.findall(r'^    "([a-z]+)": "(\w+)",', text_of("workbench/altqplay_workbench/cli.py"), re.M))
+    return dict(re.findall(r'^    "([a-z]+)": "(\w+)",', text_of("python/altqplay/workbench/cli.py"), re.M))
 
 
 @functools.lru_cache(maxsize=None)
@@ -176,7 +176,7 @@ def wrong_commands(line):
         if name not in modules():
             yield f"no subcommand altqwork {name}"
         for option in OPTION.findall(rest):
-            if option not in options_of("workbench/altqplay_workbench/*.py") | {"--help"}:
+            if option not in options_of("python/altqplay/workbench/*.py") | {"--help"}:
                 yield f"no option altqwork {name} {option}"
     known = options_of("docs/reference/MANUAL.md")
     for name, rest in ALTQPLAY.findall(line):

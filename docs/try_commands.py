@@ -8,7 +8,7 @@ With --quiet before them it says nothing but what does not come out as shown and
 A block of a page that is marked `console` holds commands and what they print, on standard output and standard
 error together. A line that begins with `$ ` is a command, lines that begin with `> ` continue it, and a line `...`
 stands for any lines. The commands of a page are given to one bash, one after the other, in a new folder that
-holds bin/, example/, docs/, release/ and workbench/ of this repository, the program that release/program finds and its
+holds bin/, example/, docs/, release/ and python/ of this repository, the program that release/program finds and its
 data. So they change nothing here.
 
 Where the program, bash, a tool of TOOLS or what a subcommand of the workbench needs is missing, what needs it is left
@@ -30,7 +30,7 @@ from functools import lru_cache
 ROOT = os.path.dirname(os.path.dirname(os.path.abspath(__file__)))
 RULE = os.path.join(ROOT, "release", "program")  # prints the path of the program
 PROGRAM = os.path.join("crates", "altqplay", "out", "altqplay")  # where the commands have it
-WORKBENCH = os.path.join("workbench", "altqwork")
+WORKBENCH = os.path.join("python", "altqwork")
 MISSING = 77  # the status of a subcommand of the workbench whose libraries are not there
 TOOLS = ["tcpdump", "tshark", "capinfos", "editcap", "gnuplot"]
 MESSAGES = os.path.join(ROOT, "robust", "messages.txt")
@@ -128,7 +128,7 @@ def program():
 
 def make_room(room):
     """Fills a new folder with what the commands of a page need."""
-    for name in ("bin", "example", "docs", "release", "workbench", os.path.join("crates", "altqplay", "data")):
+    for name in ("bin", "example", "docs", "release", "python", os.path.join("crates", "altqplay", "data")):
         shutil.copytree(os.path.join(ROOT, name), os.path.join(room, name), ignore=shutil.ignore_patterns("out", "venv", "__pycache__"))
     os.makedirs(os.path.join(room, os.path.dirname(PROGRAM)))
     shutil.copyfile(program(), os.path.join(room, PROGRAM))

@@ -1,16 +1,16 @@
 #!/usr/bin/env python3
 """Writes a capture of a few bursts. Takes the name of the capture, and then the bursts in the order of the records, each as
-COUNTxLENGTH@TIME[:WHAT[:TOS]]; workbench/altqplay_workbench/bursts.py says what that means. `altqwork try` plays them, too.
+COUNTxLENGTH@TIME[:WHAT[:TOS]]; python/altqplay/workbench/bursts.py says what that means. `altqwork try` plays them, too.
 """
 
 import os
 import sys
 
 sys.dont_write_bytecode = True
-sys.path.insert(0, os.path.join(os.path.dirname(os.path.dirname(os.path.abspath(__file__))), "workbench"))
+sys.path.insert(0, os.path.join(os.path.dirname(os.path.dirname(os.path.abspath(__file__))), "python"))
 
-from altqplay_workbench.bursts import capture  # noqa: E402
-from altqplay_workbench.faults import Refused  # noqa: E402
+from altqplay.workbench.bursts import capture  # noqa: E402
+from altqplay.workbench.faults import Refused  # noqa: E402
 
 
 def main(words):

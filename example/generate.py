@@ -27,9 +27,9 @@ Other scripts use the functions of this one to make captures of their own.
 import os
 import sys
 
-sys.path.insert(0, os.path.join(os.path.dirname(os.path.dirname(os.path.abspath(__file__))), "workbench"))
+sys.path.insert(0, os.path.join(os.path.dirname(os.path.dirname(os.path.abspath(__file__))), "python"))
 
-from altqplay_workbench.bursts import DATA_PORT, NANOSECONDS, capture_head, captured_bytes, record  # noqa: E402
+from altqplay.workbench.bursts import DATA_PORT, NANOSECONDS, capture_head, captured_bytes, record  # noqa: E402
 
 MILLISECOND = 10**6
 

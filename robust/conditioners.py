@@ -25,13 +25,13 @@ import tempfile
 from collections import Counter
 
 sys.dont_write_bytecode = True
-sys.path.insert(0, os.path.join(os.path.dirname(os.path.dirname(os.path.abspath(__file__))), "workbench"))
+sys.path.insert(0, os.path.join(os.path.dirname(os.path.dirname(os.path.abspath(__file__))), "python"))
 
-from altqplay_workbench.conf import read_conf  # noqa: E402
-from altqplay_workbench.faults import Refused  # noqa: E402
-from altqplay_workbench.meter import colours_of, unmarked_fates  # noqa: E402
-from altqplay_workbench.rules.frames import type_of_service  # noqa: E402
-from altqplay_workbench.rules.meters import mark  # noqa: E402
+from altqplay.workbench.conf import read_conf  # noqa: E402
+from altqplay.workbench.faults import Refused  # noqa: E402
+from altqplay.workbench.meter import colours_of, unmarked_fates  # noqa: E402
+from altqplay.workbench.rules.frames import type_of_service  # noqa: E402
+from altqplay.workbench.rules.meters import mark  # noqa: E402
 import pcapng  # noqa: E402
 from given import retagged  # noqa: E402
 from judge import is_pcapng, read_capture, read_head  # noqa: E402

@@ -8,8 +8,8 @@ import re
 import struct
 from collections import defaultdict, namedtuple
 
-from altqplay_workbench.rules.curves import Openings, is_zero
-from altqplay_workbench.rules.frames import IPV4, TAGS, is_capable, type_of_service, word
+from altqplay.workbench.rules.curves import Openings, is_zero
+from altqplay.workbench.rules.frames import IPV4, TAGS, is_capable, type_of_service, word
 from judge import read_capture
 from program import DEPARTURES_HEAD, FATES_HEAD
 

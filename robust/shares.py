@@ -19,11 +19,11 @@ import tempfile
 from collections import Counter
 
 sys.dont_write_bytecode = True
-sys.path.insert(0, os.path.join(os.path.dirname(os.path.dirname(os.path.abspath(__file__))), "workbench"))
+sys.path.insert(0, os.path.join(os.path.dirname(os.path.dirname(os.path.abspath(__file__))), "python"))
 
-from altqplay_workbench import gap  # noqa: E402
-from altqplay_workbench.conf import read_conf  # noqa: E402
-from altqplay_workbench.rows import fate_rows  # noqa: E402
+from altqplay.workbench import gap  # noqa: E402
+from altqplay.workbench.conf import read_conf  # noqa: E402
+from altqplay.workbench.rows import fate_rows  # noqa: E402
 from program import PROGRAM, content, prepare, run, store, words_of  # noqa: E402
 from transcript import Case  # noqa: E402
 

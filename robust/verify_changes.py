@@ -21,7 +21,7 @@ import tempfile
 from collections import Counter
 
 sys.dont_write_bytecode = True
-sys.path.insert(0, os.path.join(os.path.dirname(os.path.dirname(os.path.abspath(__file__))), "workbench"))
+sys.path.insert(0, os.path.join(os.path.dirname(os.path.dirname(os.path.abspath(__file__))), "python"))
 
 from agreed import arrivals, interface  # noqa: E402
 from given import BYTE, link_of, rows_of, verdict  # noqa: E402

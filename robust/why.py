@@ -4,7 +4,7 @@
     why.py SEED [RUNS] [--first NUMBER] [--keep FOLDER] [--program PROGRAM]
 
 No part of any test: a thousand runs take minutes. The cases follow from SEED and their numbers, RUNS of them (1000 without the word)
-from 0 or from --first on; workbench/tests/random_plays.py draws them. The model was written from the pages and not from the code, so where it
+from 0 or from --first on; python/tests/random_plays.py draws them. The model was written from the pages and not from the code, so where it
 decides otherwise than the program one of the three is wrong. --keep leaves the files of the cases that differ in a folder. The exit status is
 0 where none did, else 1. At the end it says how many fates of each kind there were.
 """
@@ -18,7 +18,7 @@ import tempfile
 from collections import Counter
 
 sys.dont_write_bytecode = True
-WORKBENCH = os.path.join(os.path.dirname(os.path.dirname(os.path.abspath(__file__))), "workbench")
+WORKBENCH = os.path.join(os.path.dirname(os.path.dirname(os.path.abspath(__file__))), "python")
 sys.path[:0] = [WORKBENCH, os.path.join(WORKBENCH, "tests")]
 
 import random_plays  # noqa: E402

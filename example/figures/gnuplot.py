@@ -7,10 +7,10 @@ import sys
 from collections import Counter
 
 sys.dont_write_bytecode = True
-sys.path.insert(0, os.path.join(os.path.dirname(os.path.abspath(__file__)), "..", "..", "workbench"))
+sys.path.insert(0, os.path.join(os.path.dirname(os.path.abspath(__file__)), "..", "..", "python"))
 
-from altqplay_workbench.faults import Refused  # noqa: E402
-from altqplay_workbench.rows import fate_rows  # noqa: E402
+from altqplay.workbench.faults import Refused  # noqa: E402
+from altqplay.workbench.rows import fate_rows  # noqa: E402
 
 # Tellable apart by the colour-blind (Okabe and Ito), with shapes for those who print in black and white.
 COLOURS = ["#0072b2", "#d55e00", "#009e73", "#cc79a7", "#000000", "#56b4e9"]

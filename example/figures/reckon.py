@@ -1,6 +1,6 @@
 """What the figures show, reckoned in whole numbers from the fates that the program wrote.
 
-A fate is a row of workbench/altqplay_workbench/rows.py: number, arrival, length, name, fate, start and end, times in nanoseconds.
+A fate is a row of python/altqplay/workbench/rows.py: number, arrival, length, name, fate, start and end, times in nanoseconds.
 """
 
 import os
