@@ -23,7 +23,7 @@ import tempfile
 ROOT = os.path.dirname(os.path.dirname(os.path.abspath(__file__)))
 INSIDE = ["python3", "python3-venv", "python3-numpy", "python3-pandas", "python3-plotly"]
 
-# Uses what is installed, in a new folder: $1 has the examples. The counts are those that docs/EXAMPLE.md shows.
+# Uses what is installed, in a new folder: $1 has the examples. The counts are those that docs/operators/OPERATING.md shows.
 USE = r"""
 show() {
     printf '$ %s\n' "$*"

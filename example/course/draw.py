@@ -1,7 +1,7 @@
 #!/usr/bin/env python3
 """Draws a picture of docs/teaching/COURSE.md from the rule itself, and prints the numbers that it draws.
 
-Takes PICTURE, one of curves, virtual, average and buckets, and works from any directory. It reckons in whole numbers and
+Takes PICTURE, one of curves, virtual and average, and works from any directory. It reckons in whole numbers and
 plays nothing, so the program is not needed. PICTURE.png comes to example/out/course by gnuplot; where that is not
 installed the numbers are printed, and a line says that nothing was drawn. To vary a picture change the numbers at the
 head of its function. The exit status is 0, and 2 for other arguments.
@@ -137,28 +137,7 @@ def average():
     draw("average", data, [panel("average of a CBQ class after each packet", "end of the packet, ms", "average, ms", lines)], 700)
 
 
-def buckets():
-    """The buckets of a single rate three colour marker (RFC 2697), colour-blind, of 8 Mbit/s: a byte comes each microsecond."""
-    committed, excess, packets = 1000, 1500, [(0, 1000), (400, 600), (3000, 1000), (3000, 1000), (3300, 500), (3400, 800), (6000, 900)]
-    tokens, last, rows = [committed, excess], 0, {"Tc": [(0, committed)], "Te": [(0, excess)]}
-    for at, length in packets:
-        for moment in range(last, at + 1, 50):
-            came = moment - last
-            full = min(committed - tokens[0], came)
-            rows["Tc"].append((moment / 1000, tokens[0] + full))
-            rows["Te"].append((moment / 1000, min(excess, tokens[1] + came - full)))
-        full = min(committed - tokens[0], at - last)
-        tokens, last = [tokens[0] + full, min(excess, tokens[1] + at - last - full)], at
-        colour = "green" if length <= tokens[0] else "yellow" if length <= tokens[1] else "red"
-        tokens = [tokens[0] - length * (colour == "green"), tokens[1] - length * (colour == "yellow")]
-        rows["Tc"].append((at / 1000, tokens[0]))
-        rows["Te"].append((at / 1000, tokens[1]))
-        print(f"at {at} us: {length} bytes are {colour}; {tokens[0]} and {tokens[1]} bytes are left")
-    lines = [("Tc", "committed bucket, 1000 bytes", f"lines {STYLES[0]}"), ("Te", "excess bucket, 1500 bytes", f"lines {STYLES[2]}")]
-    draw("buckets", list(rows.items()), [panel("tokens of a single rate meter", "ms", "bytes", lines)], 700)
-
-
-PICTURES = {"curves": curves, "virtual": virtual, "average": average, "buckets": buckets}
+PICTURES = {"curves": curves, "virtual": virtual, "average": average}
 
 
 if __name__ == "__main__":
