@@ -38,7 +38,7 @@ loop-place-preserved g c =
     record {
       order = omega (arith, c.if-at-moment.false);
       drawn = omega (arith, drawn, drew);
-      rate = subst R (sym c.offer.ensures.rate) c.send_before.ensures.rate;
-      policy = c.offer.ensures.policy ∙ c.send_before.ensures.policy ∙ c.loop-place.invariant.policy;
+      rate = subst R (sym c.offer.ensures.kind.link_rate) c.send_before.ensures.rate;
+      policy = c.offer.ensures.kind.policy ∙ c.send_before.ensures.policy ∙ c.loop-place.invariant.policy;
       at = y.0;
     }
