@@ -8,8 +8,8 @@ check up to 2 seconds are missed, about one in the mean; of an edit that takes 8
 runs programs is not counted, and edits that another run tries meanwhile are. It needs Linux, and is no part of any test.
 
 The table has minutes of processor time, the dearest crate first; in brackets stands how many checks there were. A crate with
-several edits is checked once more from nothing, with the first of them in it: that is `again`, and the others, which begin with
-what that check kept, are `edits`. The exit status is the command's.
+several edits is checked once more from nothing: that is `again`, and its edits, which begin with what that check kept, are `edits`.
+The exit status is the command's.
 """
 
 import os
@@ -25,40 +25,40 @@ TICKS = os.sysconf("SC_CLK_TCK")
 KINDS = ["proof", "tests", "again", "edits"]
 
 
-def kind_of(words, folder, key, firsts):
-    """What a check is for, if it is one of the gate: `firsts` has of each folder of kept work the check that began it."""
+def kind_of(words, folder):
+    """What a check is for, if it is one of the gate. What a crate's edits begin with is kept in a folder `seed`."""
     if "rt-edit" in folder:
-        kept = words[words.index("--incremental") + 1] if "--incremental" in words else None
-        return "again" if kept and firsts.setdefault(kept, key) == key else "edits"
+        kept = words[words.index("--incremental") + 1] if "--incremental" in words else ""
+        return "again" if os.path.basename(kept) == "seed" else "edits"
     if not folder.startswith(ROOT + os.sep):
         return None
     return "tests" if "--test" in words else "proof"
 
 
-def checks(firsts):
+def checks():
     """The checks that run now: of each process a key that comes once, what it checks and the seconds that it took."""
     for name in filter(str.isdigit, os.listdir("/proc")):
         try:
-            with open(f"/proc/{name}/cmdline", encoding="utf-8") as file:
+            with open(f"/proc/{name}/cmdline", encoding="utf-8", errors="replace") as file:
                 words = file.read().split("\0")
             folder = os.readlink(f"/proc/{name}/cwd")
-            with open(f"/proc/{name}/stat", encoding="utf-8") as file:
+            with open(f"/proc/{name}/stat", encoding="utf-8", errors="replace") as file:
                 numbers = file.read().rpartition(")")[2].split()
         except OSError:
             continue  # it has ended
         if os.path.basename(words[0]) != "rattle" or "--crate-name" not in words:
             continue
         key = name, numbers[19]
-        kind = kind_of(words, folder, key, firsts)
+        kind = kind_of(words, folder)
         if kind:
             yield key, (words[words.index("--crate-name") + 1], kind), sum(map(int, numbers[11:15])) / TICKS
 
 
 def watched(process):
     """The seconds of each check until a process ends."""
-    found, firsts = {}, {}
+    found = {}
     while process.poll() is None:
-        found.update((key, (what, seconds)) for key, what, seconds in checks(firsts))
+        found.update((key, (what, seconds)) for key, what, seconds in checks())
         time.sleep(2)
     return found.values()
 
@@ -75,10 +75,10 @@ def summed(found):
 
 def beside():
     """Looks on beside a command that another runs, until SIGTERM; then says the dearest crates."""
-    found, firsts, ended = {}, {}, []
+    found, ended = {}, []
     signal.signal(signal.SIGTERM, lambda *_: ended.append(True))
     while not ended:
-        found.update((key, (what, seconds)) for key, what, seconds in checks(firsts))
+        found.update((key, (what, seconds)) for key, what, seconds in checks())
         time.sleep(2)
     took, _, crates = summed(found.values())
     if crates:
