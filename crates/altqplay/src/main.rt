@@ -7,7 +7,7 @@ ghost use Rattle.std.specs.Process.{exit_status};
 mod talk;
 
 use play_cli::{Status, run};
-use play_hints::{OUT_OF_MEMORY, encoding_hint};
+use play_hints::{NO_UTF8, OUT_OF_MEMORY};
 use real_files::{RealFiles, Seen};
 use std::fs::File;
 use std::io::IsTerminal;
@@ -60,7 +60,7 @@ fn without_words(rt: &HostRuntime, error: io::Error) -> ExitCode {
         let _ = rt.eprint(OUT_OF_MEMORY);
         return ExitCode::from(NO_MEMORY);
     }
-    let _ = rt.eprint(encoding_hint());
+    let _ = rt.eprint(NO_UTF8);
     ExitCode::from(REFUSED)
 }
 

@@ -1,142 +1,31 @@
 // The lines on standard error: which text goes with which status.
 
+use clap::ArgMatches;
 use play_cli::Status;
 use play_hints::{
-    ConfAt, File, Given, OUT_OF_MEMORY, capture_hint, clock_hint, conf_hint, file_hint,
-    long_capture_hint, long_conf_hint, long_given_hint, play_line, refuted_hint, words_hint,
+    ConfAt, OUT_OF_MEMORY, capture_hint, conf_hint, file_hint, limit_hint, play_line, refuted_hint,
+    words_hint,
 };
-use play_words::{
-    ChainWords, CheckWords, Command, ConditionWords, PlayWords, VerifyWords, read_words,
-};
+use play_words::options_read;
 use real_files::Seen;
 use std::alloc::{AllocError, Global};
 
-// The names of a run's files, no text for one that its command has not.
-#[derive(Clone, Copy)]
-struct Names<'a> {
-    config: &'a str,
-    interface: &'a str,
-    arrivals: &'a str,
-    departures: &'a str,
-    fates: &'a str,
-    stats: &'a str,
-    chained: Option<ChainWords<'a>>,
-    marked: &'a str,
-    counts: bool,
-}
-
-// The names of a play; `counts` says whether its counts are told to someone who reads them.
-fn played<'a>(read: PlayWords<'a>, counts: bool) -> Names<'a> {
-    Names {
-        config: read.config,
-        interface: read.interface,
-        arrivals: read.arrivals,
-        departures: read.departures,
-        fates: read.fates,
-        stats: read.stats,
-        chained: None,
-        marked: "",
-        counts,
-    }
-}
-
-// The names of a chain.
-fn chained(read: ChainWords<'_>) -> Names<'_> {
-    Names {
-        chained: Some(read),
-        ..played(read.play, false)
-    }
-}
-
-// The names of files that are checked.
-fn verified<'a>(read: VerifyWords<'a>) -> Names<'a> {
-    Names {
-        config: read.config,
-        interface: read.interface,
-        arrivals: read.arrivals,
-        departures: read.departures,
-        fates: read.fates,
-        stats: "",
-        chained: None,
-        marked: "",
-        counts: false,
-    }
-}
-
-// The names of a check.
-fn checked<'a>(read: CheckWords<'a>) -> Names<'a> {
-    Names {
-        config: read.config,
-        interface: read.interface,
-        arrivals: "",
-        departures: "",
-        fates: "",
-        stats: "",
-        chained: None,
-        marked: "",
-        counts: false,
-    }
-}
-
-// The names of a marking.
-fn conditioned<'a>(read: ConditionWords<'a>) -> Names<'a> {
-    Names {
-        config: read.config,
-        interface: read.interface,
-        arrivals: read.arrivals,
-        departures: "",
-        fates: "",
-        stats: "",
-        chained: None,
-        marked: read.marked,
-        counts: false,
-    }
-}
-
-// The names that the words give; none where they are refused.
-fn names_of(alloc: Global, words: &[String]) -> Option<Names<'_>> {
-    match read_words(alloc, words) {
-        Ok(Command::Play(read)) => Some(played(read, true)),
-        Ok(Command::Make(read)) => Some(played(read.play, false)),
-        Ok(Command::Shares(read)) => Some(played(read, false)),
-        Ok(Command::Chain(read)) => Some(chained(read)),
-        Ok(Command::Verify(read)) => Some(verified(read)),
-        Ok(Command::Check(read)) => Some(checked(read)),
-        Ok(Command::Condition(read)) => Some(conditioned(read)),
-        Err(_) => None,
-    }
-}
-
-// The name of what could not be read.
-fn unread<'a>(names: &Names<'a>, kind: u8) -> &'a str {
-    match kind {
-        1 => names.config,
-        2 => names.arrivals,
-        3 => names.departures,
-        _ => names.fates,
-    }
-}
-
-// The name of what a chain could not write beside its first play.
-fn unchained<'a>(chained: ChainWords<'a>, kind: u8) -> &'a str {
-    match kind {
-        6 => chained.departures2,
-        7 => chained.fates2,
-        8 => chained.stats2,
-        _ => chained.path,
-    }
-}
-
-// The name of what could not be written.
-fn unwritten<'a>(names: &Names<'a>, kind: u8) -> &'a str {
-    match (kind, names.chained) {
-        (1, _) => names.departures,
-        (2, _) => names.fates,
-        (3, _) => names.stats,
-        (4, _) => names.arrivals,
-        (5, _) => names.marked,
-        (6..=9, Some(chained)) => unchained(chained, kind),
-        _ => "standard output",
+// The option that names the file that a status tells of, by its code and kind; none for standard output. Of two links in a row the
+// second takes what departed from the first.
+fn at_fault(status: Status) -> &'static str {
+    match (status.code, status.kind) {
+        (3, _) | (5, 1) | (7, 3) => "config",
+        (4, _) | (7, 1 | 2) if status.line == 2 => "departures",
+        (4, _) | (5, 2) | (6, 4) | (7, 1 | 2) => "arrivals",
+        (5, 3) | (6, 1) | (7, 5) | (10, 8) => "departures",
+        (6, 3) => "stats",
+        (6, 5) => "marked",
+        (6, 6) => "departures2",
+        (6, 7) => "fates2",
+        (6, 8) => "stats2",
+        (6, 9) => "path",
+        (6, 10) => "",
+        _ => "fates",
     }
 }
 
@@ -145,81 +34,46 @@ fn fault_text(alloc: Global, name: &str, seen: &Seen) -> Result<String, AllocErr
     match seen.error() {
         Some(error) => {
             let fault = format!(in alloc; "{error}")?;
-            file_hint(
-                alloc,
-                File {
-                    name,
-                    fault: fault.as_str(),
-                },
-            )
+            file_hint(alloc, name, fault.as_str())
         }
         None => Ok(String::new(alloc)),
     }
 }
 
-// The name of the capture that a status tells of: what came to the second of two links, or the arrivals.
-fn came_to<'a>(names: &Names<'a>, status: Status) -> &'a str {
-    if status.line == 2 {
-        names.departures
-    } else {
-        names.arrivals
-    }
-}
-
-// What to say of a limit.
-fn limit_text(
-    alloc: Global,
-    names: &Names<'_>,
-    status: Status,
-    seen: &Seen,
-) -> Result<String, AllocError> {
-    match status.kind {
-        1 => long_capture_hint(alloc, came_to(names, status), seen.head()),
-        2 => clock_hint(alloc, came_to(names, status)),
-        3 => long_conf_hint(alloc, names.config),
-        4 => long_given_hint(alloc, names.fates),
-        _ => long_given_hint(alloc, names.departures),
-    }
-}
-
-// What to say of given files that fail a test.
-fn refuted_text(alloc: Global, names: &Names<'_>, status: Status) -> Result<String, AllocError> {
-    let given = Given {
-        departures: names.departures,
-        fates: names.fates,
-    };
-    refuted_hint(alloc, given, status.line, status.kind)
-}
-
-// What to say of a run whose words were accepted.
+// What to say of a run that is not done, by the values of its options.
 fn run_text(
     alloc: Global,
-    names: &Names<'_>,
+    matches: &ArgMatches<'_>,
     status: Status,
     seen: &Seen,
 ) -> Result<String, AllocError> {
+    let name = matches
+        .get_str(at_fault(status))
+        .unwrap_or("standard output");
     match status.code {
         3 => {
+            let interface = matches.get_str("interface").unwrap_or_default();
             let place = ConfAt {
                 line: status.line,
                 word: status.word,
                 kind: status.kind,
             };
-            conf_hint(alloc, names.config, names.interface, seen.conf(), place)
+            conf_hint(alloc, name, interface, seen.conf(), place)
         }
-        4 => capture_hint(
-            alloc,
-            came_to(names, status),
-            seen.head(),
-            status.place,
-            status.kind,
-        ),
-        5 => fault_text(alloc, unread(names, status.kind), seen),
-        6 => fault_text(alloc, unwritten(names, status.kind), seen),
-        7 => limit_text(alloc, names, status, seen),
+        4 => capture_hint(alloc, name, seen.head(), status.place, status.kind),
+        5 | 6 => fault_text(alloc, name, seen),
+        7 => limit_hint(alloc, name, seen.head(), status.kind),
         8 => String::from_str(alloc, OUT_OF_MEMORY),
-        10 => refuted_text(alloc, names, status),
+        10 => refuted_hint(alloc, name, status.line, status.kind),
         _ => Ok(String::new(alloc)),
+    }
+}
+
+// Whether the words are those of a play.
+fn are_of_play(words: &[String]) -> bool {
+    match words.first() {
+        Some(word) => word.as_str() == "play",
+        None => false,
     }
 }
 
@@ -232,18 +86,13 @@ pub fn text(
     seen: &Seen,
     is_terminal: bool,
 ) -> Result<String, AllocError> {
-    if status.code == 2 {
-        return words_hint(alloc, words);
-    }
-    match names_of(alloc, words) {
-        Some(names) if status.code == 0 => {
-            if is_terminal && names.counts {
-                play_line(alloc, seen.stats())
-            } else {
-                Ok(String::new(alloc))
-            }
-        }
-        Some(names) => run_text(alloc, &names, status, seen),
-        None => Ok(String::new(alloc)),
+    match status.code {
+        0 if is_terminal && are_of_play(words) => play_line(alloc, seen.stats()),
+        0 => Ok(String::new(alloc)),
+        2 => words_hint(alloc, words),
+        _ => match options_read(alloc, words) {
+            Some(Ok(matches)) => run_text(alloc, &matches, status, seen),
+            _ => Ok(String::new(alloc)),
+        },
     }
 }

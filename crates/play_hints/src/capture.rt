@@ -1,176 +1,115 @@
 // What is wrong with a capture.
 
-use crate::block::{block_line, is_pcapng};
-use crate::line::line_shown;
-use printable_text::shown;
+use crate::line::line;
 use std::alloc::{AllocError, Global};
 
-// What a file is that begins otherwise than a capture of the classic format: what unpacks or converts it.
-#[derive(Clone, Copy)]
-enum Format {
-    Packed(&'static str, &'static str),
-    Modified,
-    Other,
-}
+// What a pcapng file begins with.
+pub(crate) const PCAPNG: &[u8] = b"\n\r\r\n";
 
-// A format of packed files: what they begin with, its name, and what unpacks them.
-#[derive(Clone, Copy)]
-struct Packed {
-    magic: &'static [u8],
-    name: &'static str,
-    tool: &'static str,
-}
+const MODIFIED: &str = "@: modified libpcap: convert it first: editcap -F nsecpcap @ out.pcap";
 
-// gzip is RFC 1952, zstd RFC 8878.
-const PACKED: [Packed; 5] = [
-    Packed {
-        magic: &[0x1f, 0x8b],
-        name: "gzip",
-        tool: "gzip -dk",
-    },
-    Packed {
-        magic: &[0x28, 0xb5, 0x2f, 0xfd],
-        name: "zstd",
-        tool: "zstd -dk",
-    },
-    Packed {
-        magic: &[0xfd, b'7', b'z', b'X'],
-        name: "xz",
-        tool: "xz -dk",
-    },
-    Packed {
-        magic: b"BZh",
-        name: "bzip2",
-        tool: "bzip2 -dk",
-    },
-    Packed {
-        magic: &[0x04, 0x22, 0x4d, 0x18],
-        name: "lz4",
-        tool: "lz4 -dk",
-    },
+// What other files begin with, and what to say of them. gzip is RFC 1952, zstd RFC 8878; the last two are the capture format of some
+// old systems, which libpcap reads too.
+const FORMATS: [(&[u8], &str); 7] = [
+    (&[0x1f, 0x8b], "@: gzip: unpack it first: gzip -dk @"),
+    (
+        &[0x28, 0xb5, 0x2f, 0xfd],
+        "@: zstd: unpack it first: zstd -dk @",
+    ),
+    (
+        &[0xfd, b'7', b'z', b'X'],
+        "@: xz: unpack it first: xz -dk @",
+    ),
+    (b"BZh", "@: bzip2: unpack it first: bzip2 -dk @"),
+    (
+        &[0x04, 0x22, 0x4d, 0x18],
+        "@: lz4: unpack it first: lz4 -dk @",
+    ),
+    (&[0x34, 0xcd, 0xb2, 0xa1], MODIFIED),
+    (&[0xa1, 0xb2, 0xcd, 0x34], MODIFIED),
 ];
 
-// The format of a file by its first bytes: a packed one, or the capture format of some old systems, which libpcap reads too.
-fn format_of(head: &[u8]) -> Format {
-    for packed in &PACKED {
-        if head.starts_with(packed.magic) {
-            return Format::Packed(packed.name, packed.tool);
+// What to say of a file that begins with no magic of a capture.
+fn magic_form(head: &[u8]) -> &'static str {
+    for (magic, form) in &FORMATS {
+        if head.starts_with(magic) {
+            return *form;
         }
     }
-    match head {
-        [0x34, 0xcd, 0xb2, 0xa1, ..] | [0xa1, 0xb2, 0xcd, 0x34, ..] => Format::Modified,
-        _ => Format::Other,
-    }
+    "@: no capture, it begins with \"%\": give a file that tcpdump -w wrote"
 }
 
-// What to say of a packed file.
-fn packed_line(alloc: Global, name: &str, format: &str, tool: &str) -> Result<String, AllocError> {
-    format!(in alloc; "{name}: {format}: unpack it first: {tool} {name}")
-}
-
-// What to say of a capture of some old systems.
-fn modified_line(alloc: Global, name: &str) -> Result<String, AllocError> {
-    format!(in alloc;
-        "{name}: modified libpcap: convert it first: editcap -F nsecpcap {name} out.pcap"
-    )
-}
-
-// What to say of a file of no format, by its first bytes.
-fn other_line(alloc: Global, name: &str, head: &[u8]) -> Result<String, AllocError> {
-    let begin = shown(alloc, head)?;
-    format!(in alloc;
-        "{name}: no capture, it begins with \"{begin}\": give a file that tcpdump -w wrote"
-    )
-}
-
-// What to say of a file that begins with no magic of a capture.
-fn magic_hint(alloc: Global, name: &str, head: &[u8]) -> Result<String, AllocError> {
-    match format_of(head) {
-        Format::Packed(format, tool) => packed_line(alloc, name, format, tool),
-        Format::Modified => modified_line(alloc, name),
-        Format::Other => other_line(alloc, name, head.get(..8).unwrap_or(head)),
-    }
-}
-
-// Whether the numbers of a capture stand with the greatest byte first.
-fn is_big(head: &[u8]) -> bool {
-    matches!(head, [0xa1, ..])
-}
-
-// The number of 16 bits at a place.
-fn number_at(head: &[u8], at: usize) -> u16 {
+// The number of 16 bits at a place of a head, of which the first byte says whether the greatest byte of a number comes first.
+fn number_at(head: &[u8], at: usize) -> u64 {
     match head.get(at..) {
-        Some([first, second, ..]) if is_big(head) => u16::from_be_bytes([*first, *second]),
-        Some([first, second, ..]) => u16::from_le_bytes([*first, *second]),
+        Some([high, low, ..]) if head.starts_with(&[0xa1]) => u64::from(u16::from_be_bytes([
+            *high, *low,
+        ])),
+        Some([low, high, ..]) => u64::from(u16::from_le_bytes([*low, *high])),
         _ => 0,
     }
 }
 
-// What a link type is called, and how to have Ethernet in its place. The numbers are those of the tcpdump group's list.
-fn link_name(link: u16) -> (&'static str, &'static str) {
-    let one_interface = "capture on one Ethernet interface";
-    let convert = "use altqwork convert";
+// What to say of a capture of another link type. The numbers are those of the tcpdump group's list.
+fn link_form(link: u64) -> &'static str {
     match link {
-        0 | 108 => ("BSD loopback", convert),
-        9 | 50 => ("PPP", convert),
-        12 | 14 | 101 | 228 | 229 => ("raw IP", convert),
-        105 | 127 => ("802.11", one_interface),
-        113 => ("Linux cooked", convert),
-        276 => ("Linux cooked v2", convert),
-        _ => ("no Ethernet", one_interface),
+        0 | 108 => "@: link type #, BSD loopback: need 1, Ethernet: use altqwork convert",
+        9 | 50 => "@: link type #, PPP: need 1, Ethernet: use altqwork convert",
+        12 | 14 | 101 | 228 | 229 =>
+            "@: link type #, raw IP: need 1, Ethernet: use altqwork convert",
+        105 | 127 => "@: link type #, 802.11: need 1, Ethernet: capture on one Ethernet interface",
+        113 => "@: link type #, Linux cooked: need 1, Ethernet: use altqwork convert",
+        276 => "@: link type #, Linux cooked v2: need 1, Ethernet: use altqwork convert",
+        _ => "@: link type #, no Ethernet: need 1, Ethernet: capture on one Ethernet interface",
     }
 }
 
-// What to say of a capture of another link type, whose head has both bytes of the lower half.
-fn link_hint(alloc: Global, name: &str, head: &[u8]) -> Result<String, AllocError> {
-    let at = if is_big(head) { 22 } else { 20 };
-    let link = number_at(head, at);
-    let (called, remedy) = link_name(link);
-    format!(in alloc; "{name}: link type {link}, {called}: need 1, Ethernet: {remedy}")
-}
-
-// What to say of a file that is shorter than the head of a capture.
-fn short_line(alloc: Global, name: &str, length: u64) -> Result<String, AllocError> {
-    format!(in alloc;
-        "{name}: {length} bytes, a capture has 24 at least: was it written to its end?"
-    )
-}
-
-// What to say of a capture of another version.
-fn version_line(alloc: Global, name: &str, major: u16, minor: u16) -> Result<String, AllocError> {
-    format!(in alloc;
-        "{name}: version {major}.{minor}: need 2.4: editcap -F nsecpcap {name} out.pcap"
-    )
-}
-
-// What is wrong with a record, by the kind of its damage.
-fn record_fault(kind: u8) -> &'static str {
+// What to say of a damage of a kind of status 4 at a place, and its numbers.
+fn damage_form(head: &[u8], place: u64, kind: u8) -> (&'static str, [u64; 2]) {
     match kind {
-        5 => "is cut: all before it was decided; statistics stay empty",
-        6 => "has no length: all before it was decided; statistics stay empty",
-        _ => "is longer than 262144 bytes: all before it was decided; is the file damaged?",
+        1 => (
+            "@: # bytes, a capture has 24 at least: was it written to its end?",
+            [place, 0],
+        ),
+        2 => (magic_form(head), [0, 0]),
+        3 => (
+            "@: version #.#: need 2.4: editcap -F nsecpcap @ out.pcap",
+            [number_at(head, 4), number_at(head, 6)],
+        ),
+        4 => {
+            let link = number_at(head, if head.starts_with(&[0xa1]) { 22 } else { 20 });
+            (link_form(link), [link, 0])
+        }
+        5 => (
+            "@: the record at byte # is cut: all before it was decided; statistics stay empty",
+            [place, 0],
+        ),
+        6 => (
+            "@: the record at byte # has no length: all before it was decided; statistics stay empty",
+            [place, 0],
+        ),
+        _ => (
+            "@: the record at byte # is longer than 262144 bytes: all before it was decided; is the file damaged?",
+            [place, 0],
+        ),
     }
 }
 
-// What to say of a record at a place.
-fn record_line(alloc: Global, name: &str, place: u64, fault: &str) -> Result<String, AllocError> {
-    format!(in alloc; "{name}: the record at byte {place} {fault}")
-}
-
-// What to say of a damage by its kind.
-fn damage_line(
-    alloc: Global,
-    name: &str,
-    head: &[u8],
-    place: u64,
-    kind: u8,
-) -> Result<String, AllocError> {
+// What is wrong with a block of a pcapng file, of which nothing was played, and what to do, by the kind of status 4.
+fn block_fault(kind: u8) -> &'static str {
     match kind {
-        1 => short_line(alloc, name, place),
-        2 => magic_hint(alloc, name, head),
-        3 => version_line(alloc, name, number_at(head, 4), number_at(head, 6)),
-        4 => link_hint(alloc, name, head),
-        _ => record_line(alloc, name, place, record_fault(kind)),
+        2 => "tells no order of bytes: is the file damaged?",
+        3 => "is of another version than 1: convert it first: editcap -F nsecpcap",
+        4 => "is a packet of no Ethernet: use altqwork convert",
+        6 => "is a packet without length: is the file damaged?",
+        7 => "is a packet of more than 262144 bytes: is the file damaged?",
+        9 => "is cut: was it written to its end?",
+        10 => "is a packet of an interface that is not there: is the file damaged?",
+        11 => "is a packet before 1970 or after 2106: shift it: editcap -t SECONDS",
+        12 =>
+            "is an interface of a finer clock than 10^-18 or 2^-63 s: convert it first: editcap -F nsecpcap",
+        13 => "is an obsolete or a simple packet: convert it first: editcap -F nsecpcap",
+        _ => "is malformed: is the file damaged?",
     }
 }
 
@@ -183,10 +122,10 @@ pub fn capture_hint(
     place: u64,
     kind: u8,
 ) -> Result<String, AllocError> {
-    let made = if is_pcapng(head) {
-        block_line(alloc, name, place, kind)
-    } else {
-        damage_line(alloc, name, head, place, kind)
-    };
-    line_shown(alloc, made)
+    if head.starts_with(PCAPNG) {
+        let fault = block_fault(kind).as_bytes();
+        return line(alloc, "@: the block at byte # %", name, fault, &[place]);
+    }
+    let (form, numbers) = damage_form(head, place, kind);
+    line(alloc, form, name, head.get(..8).unwrap_or(head), &numbers)
 }

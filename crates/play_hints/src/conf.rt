@@ -1,10 +1,10 @@
 // What is wrong with a configuration.
 
-use crate::fault::{fault_text, word_at};
-use crate::line::{add_made, end_of, line_shown, logical_line, physical, words_of};
-use conf_lines::ConfKind;
-use line_text::{Token, next_line};
-use printable_text::{shown, shown_byte};
+use crate::fault::{FOREIGN, STATEMENTS, fault_form, row_of, word_at};
+use crate::line::{add_form, shown_byte};
+use crate::options::slot_at;
+use conf_lines::{ConfKind, Slots};
+use line_text::{Line, Token, next_line, words};
 use std::alloc::{AllocError, Global};
 
 /// Where a configuration is refused, and by which kind, as status 3 says it.
@@ -15,7 +15,7 @@ pub struct ConfAt {
     pub kind: u8,
 }
 
-// All kinds of faults.
+// All kinds of faults, in the order of their numbers.
 const KINDS: [ConfKind; 25] = [
     ConfKind::UnknownWord,
     ConfKind::MissingWord,
@@ -53,247 +53,203 @@ const SHOWN: usize = 100;
 // The most bytes of a word that are shown before what is wrong with it.
 const LONG: usize = 64;
 
-// The kind with a number.
-fn kind_of(number: u8) -> Option<ConfKind> {
-    KINDS.iter().copied().find(|kind| kind.number() == number)
+// The bytes of the logical line that begins with a physical line, counted from 1.
+fn logical_line(text: &[u8], number: u64) -> Option<&[u8]> {
+    let (mut line, mut from) = (1u64, 0usize);
+    for (at, byte) in text.iter().enumerate() {
+        if *byte == b'\n' && line < number {
+            line = line.saturating_add(1);
+            from = at.saturating_add(1);
+        }
+    }
+    if line != number {
+        return None;
+    }
+    let rest = text.get(from..)?;
+    rest.get(..next_line(rest, 0, number)?.to)
 }
 
-// The name of the interface that a line declares.
-fn interface_of<'a>(alloc: Global, bytes: &'a [u8]) -> Option<&'a [u8]> {
-    let found = words_of(alloc, bytes);
-    declared(&found)
-}
-
-// The name of the interface that words declare.
-fn declared<'a>(words: &[Token<'a>]) -> Option<&'a [u8]> {
-    if word_at(words, 0) == b"interface".as_slice() {
-        Some(word_at(words, 1))
-    } else {
-        None
+// The words of a logical line; none where it is too long, or memory is short.
+fn words_of(alloc: Global, bytes: &[u8]) -> Vec<Token<'_>> {
+    let line = Line {
+        number: 1,
+        from: 0,
+        to: bytes.len(),
+    };
+    match words(alloc, bytes, &line) {
+        Ok(found) => found,
+        Err(_) => Vec::new(alloc),
     }
 }
 
-// Adds a name, behind a comma where another stands before it.
-fn add_name(alloc: Global, names: &mut String, name: &[u8]) -> Result<(), AllocError> {
-    names.push_str(if names.is_empty() { "" } else { ", " })?;
-    names.push_str(shown(alloc, name)?.as_str())
+// Where a word stands first from a place on.
+fn find(bytes: &[u8], from: usize, word: &[u8]) -> Option<usize> {
+    for at in from..bytes.len() {
+        if bytes.get(at..).unwrap_or_default().starts_with(word) {
+            return Some(at);
+        }
+    }
+    None
 }
 
-// Adds the names of the interfaces of a text.
-fn add_interfaces(alloc: Global, names: &mut String, text: &[u8]) -> Result<(), AllocError> {
+// Where the first words of a line end.
+fn end_of(bytes: &[u8], words: &[Token]) -> Option<usize> {
+    let mut at = 0usize;
+    for word in words {
+        at = find(bytes, at, word.parts)?.saturating_add(word.parts.len());
+    }
+    Some(at)
+}
+
+// The physical line of a logical one in which a place stands, and the column there.
+fn physical(bytes: &[u8], place: usize) -> (&[u8], usize) {
+    let (mut from, mut to) = (0usize, bytes.len());
+    for (at, byte) in bytes.iter().enumerate() {
+        if *byte == b'\n' && at < place {
+            from = at.saturating_add(1);
+        } else if *byte == b'\n' {
+            to = to.min(at);
+        }
+    }
+    let line = bytes.get(from..to).unwrap_or_default();
+    (line, place.saturating_sub(from))
+}
+
+// Adds the name of the interface that a line declares, behind what is given; says whether it declares one.
+fn add_interface(
+    alloc: Global,
+    said: &mut String,
+    before: &str,
+    bytes: &[u8],
+) -> Result<bool, AllocError> {
+    let words = words_of(alloc, bytes);
+    let is_interface = word_at(&words, 0) == b"interface".as_slice();
+    if is_interface {
+        add_form(said, before, "", word_at(&words, 1), &[])?;
+    }
+    Ok(is_interface)
+}
+
+// Adds what to say where the interface asked for is absent: which ones there are.
+fn add_absent(
+    alloc: Global,
+    said: &mut String,
+    name: &str,
+    interface: &[u8],
+    text: &[u8],
+) -> Result<(), AllocError> {
+    add_form(said, "@: no interface %", name, interface, &[])?;
+    let mut has_one = false;
     let mut rest = text;
     for _ in 0..=text.len() {
         let Some(line) = next_line(rest, 0, 1) else {
             break;
         };
-        if let Some(name) = interface_of(alloc, &rest[..line.to]) {
-            add_name(alloc, names, name)?;
+        let before = if has_one { ", %" } else { ": it has %" };
+        if add_interface(alloc, said, before, &rest[..line.to])? {
+            has_one = true;
         }
         rest = &rest[line.to..];
+    }
+    if !has_one {
+        let begin = ", and no other: begin with: interface % bandwidth 10M hfsc";
+        add_form(said, begin, "", interface, &[])?;
+    }
+    said.push('\n')
+}
+
+// Adds a line at fault as it is shown, tabs as blanks, and carets below its word at a column, with a note behind them.
+fn add_source(
+    said: &mut String,
+    line: &[u8],
+    column: usize,
+    length: usize,
+    note: &str,
+) -> Result<(), AllocError> {
+    let cut = if column > WIDE { column - 40 } else { 0 };
+    said.push_str("  ")?;
+    for byte in line.iter().skip(cut).take(SHOWN) {
+        let shown = if *byte == b'\t' {
+            b' '
+        } else {
+            shown_byte(*byte)
+        };
+        said.push(char::from(shown))?;
+    }
+    said.push_str("\n  ")?;
+    add_carets(said, column.saturating_sub(cut), length.clamp(1, 40))?;
+    said.push_str(note)?;
+    said.push('\n')
+}
+
+// Adds blanks, and carets behind them.
+fn add_carets(said: &mut String, blanks: usize, carets: usize) -> Result<(), AllocError> {
+    for at in 0..blanks.saturating_add(carets) {
+        said.push(if at < blanks { ' ' } else { '^' })?;
     }
     Ok(())
 }
 
-// The names of the interfaces of a text.
-fn interfaces(alloc: Global, text: &[u8]) -> Result<String, AllocError> {
-    let mut names = String::new(alloc);
-    add_interfaces(alloc, &mut names, text)?;
-    Ok(names)
-}
-
-// The line on an interface that is absent, by the names of those that there are.
-fn absent_line(
-    alloc: Global,
+// Adds the line on a fault: the name, the number of the line, the word at fault if there is one, and what is wrong with it.
+fn add_fault(
+    said: &mut String,
     name: &str,
-    interface: &str,
-    names: &str,
-) -> Result<String, AllocError> {
-    if names.is_empty() {
-        format!(in alloc;
-            "{name}: no interface {interface}, and no other: begin with: interface {interface} bandwidth 10M hfsc"
-        )
-    } else {
-        format!(in alloc; "{name}: no interface {interface}: it has {names}")
-    }
-}
-
-// What to say where the interface asked for is absent.
-fn absent_hint(
-    alloc: Global,
-    name: &str,
-    interface: &str,
-    text: &[u8],
-) -> Result<String, AllocError> {
-    let names = interfaces(alloc, text)?;
-    line_shown(alloc, absent_line(alloc, name, interface, names.as_str()))
-}
-
-// The words that begin a line of pf.conf, and one of tc.
-const OF_PF: [&str; 8] = [
-    "altq", "queue", "pass", "block", "match", "set", "scrub", "table",
-];
-
-const OF_TC: [&str; 2] = ["tc", "qdisc"];
-
-// Whether a word is one of these.
-pub(crate) fn is_one_of(word: &[u8], names: &[&str]) -> bool {
-    for name in names {
-        if name.as_bytes() == word {
-            return true;
-        }
-    }
-    false
-}
-
-// Of which other program a line is, by its first word.
-fn foreign(words: &[Token]) -> &'static str {
-    let first = word_at(words, 0);
-    if is_one_of(first, &OF_PF) {
-        " this is pf.conf: see docs/operators/PF-TC.md"
-    } else if is_one_of(first, &OF_TC) {
-        " this is of tc: see docs/operators/PF-TC.md"
-    } else {
-        ""
-    }
-}
-
-// A line of a configuration as it is shown: tabs as blanks.
-fn as_shown(alloc: Global, line: &[u8]) -> Result<String, AllocError> {
-    let mut text = String::new(alloc);
-    for byte in line {
-        text.push(if *byte == b'\t' {
-            ' '
-        } else {
-            char::from(shown_byte(*byte))
-        })?;
-    }
-    Ok(text)
-}
-
-// Adds the line at fault, and carets below its word, or behind its last word where one is missing.
-fn add_source(
-    alloc: Global,
-    text: &mut String,
-    bytes: &[u8],
+    number: u64,
+    kind: ConfKind,
     words: &[Token],
     at: usize,
 ) -> Result<(), AllocError> {
+    let word = word_at(words, at);
+    let begin = if word.is_empty() { "@:#: " } else { "@:#: %: " };
+    let shown = word.get(..LONG).unwrap_or(word);
+    add_form(said, begin, name, shown, &[number])?;
+    let slot = slot_at(words, at);
+    let bounds = match slot {
+        Slots::Rate(low, high) | Slots::Whole(low, high) => [low, high],
+        _ => [0, 0],
+    };
+    let form = fault_form(kind, words, at, slot);
+    let written = row_of(&STATEMENTS, words).as_bytes();
+    add_form(said, form, "", written, &bounds)?;
+    said.push('\n')
+}
+
+// Adds what to say of a fault of a line with these words: below what is wrong that line with carets under its word, or behind its last
+// word where one is missing.
+fn add_hint(
+    said: &mut String,
+    name: &str,
+    place: ConfAt,
+    kind: ConfKind,
+    bytes: &[u8],
+    words: &[Token],
+) -> Result<(), AllocError> {
+    let at = place.word.wrapping_sub(1) as usize;
+    add_fault(said, name, place.line, kind, words, at)?;
+    if place.word == 0 {
+        return Ok(());
+    }
     let length = word_at(words, at).len();
     let front = words.get(..=at).unwrap_or(words);
     let Some(end) = end_of(bytes, front) else {
         return Ok(());
     };
     let (line, column) = physical(bytes, end.saturating_sub(length));
-    let cut = if column > WIDE { column - 40 } else { 0 };
-    add_shown(alloc, text, line.get(cut..).unwrap_or_default())?;
-    let note = if at == 0 { foreign(words) } else { "" };
-    add_carets(alloc, text, column.saturating_sub(cut), length, note)
+    let note = if at == 0 { row_of(&FOREIGN, words) } else { "" };
+    add_source(said, line, column, length, note)
 }
 
-// Adds a line of a configuration as it is shown, up to the most of its bytes.
-fn add_shown(alloc: Global, text: &mut String, line: &[u8]) -> Result<(), AllocError> {
-    let line = as_shown(alloc, line.get(..SHOWN).unwrap_or(line))?;
-    add_made(alloc, text, indented(alloc, line.as_str(), ""))
-}
-
-// A line below the one on a fault, and a note behind it.
-fn indented(alloc: Global, line: &str, note: &str) -> Result<String, AllocError> {
-    format!(in alloc; "  {line}{note}")
-}
-
-// Adds carets below a word, and a note behind them.
-fn add_carets(
+// Adds what to say of a fault of a line.
+fn add_line_hint(
     alloc: Global,
-    text: &mut String,
-    column: usize,
-    length: usize,
-    note: &str,
-) -> Result<(), AllocError> {
-    let carets = carets(alloc, column, length)?;
-    add_made(alloc, text, indented(alloc, carets.as_str(), note))
-}
-
-// Carets below a word, one where there is none.
-fn carets(alloc: Global, column: usize, length: usize) -> Result<String, AllocError> {
-    let mut text = String::new(alloc);
-    for _ in 0..column {
-        text.push(' ')?;
-    }
-    for _ in 0..length.clamp(1, 40) {
-        text.push('^')?;
-    }
-    Ok(text)
-}
-
-// The word at fault as it is shown, with a colon behind it; no text where none is at fault or one is missing.
-fn word_shown(alloc: Global, words: &[Token], at: Option<usize>) -> Result<String, AllocError> {
-    match words.get(at.unwrap_or(words.len())) {
-        Some(word) => {
-            let word = word.parts;
-            let word = shown(alloc, word.get(..LONG).unwrap_or(word))?;
-            format!(in alloc; "{word}: ")
-        }
-        None => Ok(String::new(alloc)),
-    }
-}
-
-// The line on a fault: the name and the number of the line, and the word at fault before what is wrong with it.
-fn fault_line(
-    alloc: Global,
-    name: &str,
-    number: u64,
-    word: &str,
-    fault: &str,
-) -> Result<String, AllocError> {
-    format!(in alloc; "{name}:{number}: {word}{fault}")
-}
-
-// Adds the line on a fault of a kind, at a word if one is given.
-fn add_fault(
-    alloc: Global,
-    text: &mut String,
-    place: (&str, u64),
-    kind: ConfKind,
-    words: &[Token],
-    at: Option<usize>,
-) -> Result<(), AllocError> {
-    let word = word_shown(alloc, words, at)?;
-    let fault = fault_text(alloc, kind, words, at.unwrap_or(0))?;
-    let line = fault_line(alloc, place.0, place.1, word.as_str(), fault.as_str());
-    add_made(alloc, text, line)
-}
-
-// Adds what to say of a fault of a line with these words.
-fn add_hint(
-    alloc: Global,
-    text: &mut String,
+    said: &mut String,
     name: &str,
     place: ConfAt,
     kind: ConfKind,
     bytes: &[u8],
-    words: &[Token],
 ) -> Result<(), AllocError> {
-    let named = (name, place.line);
-    if place.word == 0 {
-        return add_fault(alloc, text, named, kind, words, None);
-    }
-    let at = usize::try_from(place.word - 1).unwrap_or(0);
-    add_fault(alloc, text, named, kind, words, Some(at))?;
-    add_source(alloc, text, bytes, words, at)
-}
-
-// What to say of a fault of a line.
-fn line_hint(
-    alloc: Global,
-    name: &str,
-    place: ConfAt,
-    kind: ConfKind,
-    bytes: &[u8],
-) -> Result<String, AllocError> {
     let words = words_of(alloc, bytes);
-    let mut text = String::new(alloc);
-    add_hint(alloc, &mut text, name, place, kind, bytes, &words)?;
-    Ok(text)
+    add_hint(said, name, place, kind, bytes, &words)
 }
 
 /// What to say of a configuration that is refused: its name and line, the word at fault, what is wrong and what to write; below it
@@ -306,11 +262,14 @@ pub fn conf_hint(
     text: &[u8],
     place: ConfAt,
 ) -> Result<String, AllocError> {
+    let mut said = String::new(alloc);
     if place.line == 0 {
-        return absent_hint(alloc, name, interface, text);
+        add_absent(alloc, &mut said, name, interface.as_bytes(), text)?;
+        return Ok(said);
     }
-    match (kind_of(place.kind), logical_line(text, place.line)) {
-        (Some(kind), Some(bytes)) => line_hint(alloc, name, place, kind, bytes),
-        _ => Ok(String::new(alloc)),
+    let kind = KINDS.get(usize::from(place.kind.wrapping_sub(1)));
+    if let (Some(kind), Some(bytes)) = (kind, logical_line(text, place.line)) {
+        add_line_hint(alloc, &mut said, name, place, *kind, bytes)?;
     }
+    Ok(said)
 }
