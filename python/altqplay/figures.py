@@ -121,8 +121,8 @@ def red_average(least: int = 9, most: int = 19, starts: Sequence[int] = (0, 203,
     from `least` to `most`, which start at some milliseconds, into one queue with `red` on 8 Mbit/s. `disagree` counts fates that the
     average does not allow.
 
-    >>> red_average().table.iloc[0, :4].tolist()
-    [3968, 367, 28, 0]
+    >>> red_average().table[["packets", "early", "forced", "full"]].values.tolist()
+    [[3968, 367, 28, 0]]
     """
     found, rows = played(plays.red_average(least, most, starts, qlimit), seed, program)
     own = numbers.red_averages(rows["red"])
