@@ -11,7 +11,7 @@ import os
 import sys
 
 from . import __version__
-from .faults import Missing, Refused
+from .faults import Foreign, Missing, Refused
 from .libraries import advice
 from .play import usage
 from .printable import Printed
@@ -25,6 +25,7 @@ MODULES = {
     "import": "importing",
     "compare": "compare",
     "why": "why",
+    "verify": "verify",
     "sweep": "sweep",
     "find": "find",
     "chain": "chain",
@@ -92,6 +93,7 @@ def main(words=None):
 
 def answered(words):
     """Runs the words of a command line and answers the exit status."""
+    args = None
     try:
         args = parser_of(words).parse_args(words)
         status = args.run(args)
@@ -101,7 +103,8 @@ def answered(words):
         os.dup2(os.open(os.devnull, os.O_WRONLY), sys.stdout.fileno())
         return 0
     except (Refused, OSError) as fault:
-        print(f"altqwork: {fault}", file=sys.stderr)
+        can_take = isinstance(fault, Foreign) and hasattr(args, "foreign")
+        print(f"altqwork: {fault}" + ("; --foreign takes it" if can_take else ""), file=sys.stderr)
         return REFUSED
     except Missing as fault:
         print(f"altqwork: {fault}", file=sys.stderr)
