@@ -16,7 +16,7 @@ from .workbench import __version__
 from .workbench.faults import Missing, Refused
 
 if TYPE_CHECKING:
-    from . import exercises, figures
+    from . import exercises, figures, senders
     from .checking import Checked, check
     from .comparing import Compared, Found, compare, find
     from .playing import Chain, Play, chain, condition, make, play, shares
@@ -36,10 +36,10 @@ _MODULES = {
     "verifying": ("Verified", "verify"),
 }
 _MODULE = {name: module for module, names in _MODULES.items() for name in names}
-_PARTS = ("exercises", "figures")  # modules that are used by their names
+_PARTS = ("exercises", "figures", "senders")  # modules that are used by their names
 
 __all__ = ["Chain", "Checked", "Compared", "Found", "Missing", "Play", "Program", "Refused", "Verified", "__version__", "capture", "chain", "check",
-           "compare", "condition", "exercises", "fates", "figures", "find", "make", "play", "program", "shares", "sweep", "verify"]
+           "compare", "condition", "exercises", "fates", "figures", "find", "make", "play", "program", "senders", "shares", "sweep", "verify"]
 
 
 def __getattr__(name: str) -> Any:
