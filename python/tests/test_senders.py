@@ -13,7 +13,8 @@ class {kind} if0 a root p{share} 50 {more}
 class {kind} if0 b root p{share} 50 default qlimit 20
 filter if0 a 0 80 0 0 tcp
 """
-CONFS = {"hfsc": TWO.format(kind="hfsc", share="share", more="qlimit 30"), "red": TWO.format(kind="hfsc", share="share", more="red"), "rio": TWO.format(kind="hfsc", share="share", more="rio qlimit 100"),
+CONFS = {"hfsc": TWO.format(kind="hfsc", share="share", more="qlimit 30"), "red": TWO.format(kind="hfsc", share="share", more="red"),
+         "rio": TWO.format(kind="hfsc", share="share", more="rio qlimit 100"),
          "real time": TWO.format(kind="hfsc", share="share", more="rt 4M 10 1M ul 6M 0 6M"), "ecn": TWO.format(kind="cbq", share="bandwidth", more="borrow ecn"),
          "cbq": TWO.format(kind="cbq", share="bandwidth", more="maxburst 4")}
 
