@@ -6,8 +6,8 @@
 The packages are made twice, here and in a clone at another path under another umask, and must have the same bytes. lintian and twine
 look at them, where they are installed. Then mmdebstrap makes a root of each suite, bookworm and trixie, which has Python and the
 libraries of the workbench; in it the package of Debian is installed by dpkg, the archive is unpacked, and the wheel is installed by pip
-without a network in a new venv. Each plays the office link of docs, verifies the play, writes a page and is removed; nothing of it may
-be left. With --here, or where mmdebstrap is not installed, the archive and the wheel alone are tried, on this machine.
+without a network in a new venv, where robust/tour.py uses each function of the Python package. Each plays the office link of docs,
+verifies the play, writes a page and is removed; nothing of it may be left. With --here, or where mmdebstrap is not installed, the archive and the wheel alone are tried, on this machine.
 
 It needs root, or what mmdebstrap needs in its place, and a mirror of Debian; it takes some three minutes for each suite, and is no
 part of the gate. The exit status is 0 where all went well, 1 where something did not, and 2 for other words.
@@ -79,7 +79,7 @@ show python3 -m venv --system-site-packages venv
 before=$(find venv | sort)
 show venv/bin/pip install --quiet --disable-pip-version-check --no-index --no-deps "$packages"/*.whl
 path=$PATH; PATH=$PWD/venv/bin:$PATH; hash -r
-mkdir room; cd room; use "$examples"; cd ..
+mkdir room; cd room; use "$examples"; show python -B "$packages/tour.py"; cd ..
 show pip uninstall --quiet --disable-pip-version-check --yes altqplay
 PATH=$path; hash -r; left "the wheel"
 [ "$before" = "$(find venv | sort)" ] || { find venv -name '*altq*'; exit 1; }
@@ -131,6 +131,7 @@ def main():
         folder, script = os.path.join(room, "packages"), os.path.join(room, "script")
         same_bytes(folder, room)
         looked_at(folder)
+        shutil.copy(os.path.join(ROOT, "robust", "tour.py"), folder)
         is_here = options.here or not shutil.which("mmdebstrap")
         with open(script, "w", encoding="utf-8") as file:
             file.write(USE + ("" if is_here else DEBIAN) + ARCHIVE + WHEEL)

@@ -1,10 +1,12 @@
 #!/usr/bin/env python3
 """Makes a figure of docs/teaching/FIGURES.md: its captures, its plays, its numbers and its picture.
 
-Takes FIGURE, one of hfsc-delay, hfsc-return, red-average, rio-drops and cbq-borrowing, and works from any directory.
-What it makes lies in example/out/figures. It prints the numbers, and draws FIGURE.png there with gnuplot; where that
-is not installed it says so and draws nothing. The exit status is 0 where all that could be
-done was done, 1 where a play failed, and 2 for other arguments.
+    draw.py FIGURE [PARAMETER=VALUE ..]
+
+FIGURE is one of hfsc-delay, hfsc-return, red-average, rio-drops and cbq-borrowing. python/altqplay/workbench/figure_plays.py has their
+traffic, configurations and parameters, as `video='4M 20 2M'`. It works from any directory. What it makes lies in example/out/figures:
+it prints the numbers, and draws FIGURE.png there with gnuplot; where that is not installed it says so and draws nothing. The exit
+status is 0 where all that could be done was done, 1 where a play failed, and 2 for other arguments.
 """
 
 import os
@@ -14,11 +16,13 @@ import sys
 sys.dont_write_bytecode = True
 sys.path.insert(0, os.path.dirname(os.path.dirname(os.path.abspath(__file__))))
 
-from generate import MILLISECOND  # noqa: E402
-from make import IN, LEAVES, SECOND, make  # noqa: E402
-from reckon import (PACKET, agrees, bytes_until, earliest_deadline, frames, packets_until, percent_dropped, rates,  # noqa: E402
-                    red_averages, sent)
+from generate import write_capture  # noqa: E402
 from gnuplot import COLOURS, DASHES, SHAPES, NoPicture, backlog, block, milliseconds, read_fates, written  # noqa: E402
+
+from altqplay.workbench.faults import Refused  # noqa: E402
+from altqplay.workbench.figure_numbers import (PACKET, agrees, bytes_until, earliest_deadline, frames, packets_until,  # noqa: E402
+                                               percent_dropped, rates, red_averages, sent)
+from altqplay.workbench.figure_plays import FIGURES, IN, LEAVES, MILLISECOND, SECOND, plays_of, rate_of  # noqa: E402
 
 HERE = os.path.dirname(os.path.abspath(__file__))
 OUT = os.path.join(os.path.dirname(HERE), "out", "figures")
@@ -47,6 +51,23 @@ plot {plots}
 
 class Failed(Exception):
     """A play did not end with status 0."""
+
+
+def make(figure, words):
+    """Writes the files of a figure, NAME.conf and NAME.pcap for each play of it, and returns the plays in order."""
+    os.makedirs(OUT, exist_ok=True)
+    plays = plays_of(figure, words)
+    for play in plays:
+        with open(os.path.join(OUT, play.name + ".conf"), "w", encoding="ascii") as file:
+            file.write(play.configuration)
+        write_capture(os.path.join(OUT, play.name + ".pcap"), play.frames)
+    return plays
+
+
+def deadlines(rows, plays):
+    """The ends of both classes of hfsc-return, if the least deadline went first; their rates stand in the configuration."""
+    lines = [line.split() for line in plays[0].configuration.splitlines()]
+    return earliest_deadline(rows, {words[3]: rate_of(words[6]) for words in lines if words[0] == "class" and "sc" in words})
 
 
 def played(name):
@@ -108,7 +129,7 @@ def hfsc_return(plays):
     """Numbers and picture: a class that used what the other left is not held back when the other comes."""
     rows = played(plays[0].name)
     sides = {"played, HFSC": {name: [fate.end for fate in sent(rows, name)] for name in ("a", "b")},
-             "reckoned, least deadline first": earliest_deadline(rows, "a", "b")}
+             "reckoned, least deadline first": deadlines(rows, plays)}
     spans = [(0, 100), (100, 150), (150, 200)]
     text = [f"{'packets sent, ms':<32}" + "".join(f"{f'{begin}-{end}: a':>12}{'b':>5}" for begin, end in spans)]
     data, panels = [], []
@@ -197,12 +218,15 @@ DRAWINGS = {"hfsc-delay": hfsc_delay, "hfsc-return": hfsc_return, "red-average":
 
 
 def main(words):
-    if len(words) != 1 or words[0] not in DRAWINGS:
-        print(f"usage: draw.py FIGURE, one of {', '.join(DRAWINGS)}", file=sys.stderr)
+    if not words or words[0] not in DRAWINGS:
+        print(f"usage: draw.py FIGURE [PARAMETER=VALUE ..], FIGURE one of {', '.join(FIGURES)}", file=sys.stderr)
         return 2
     picture = os.path.relpath(os.path.join(OUT, words[0] + ".png"))
     try:
-        text, (commands, size) = DRAWINGS[words[0]](make(words[0], OUT))
+        text, (commands, size) = DRAWINGS[words[0]](make(words[0], words[1:]))
+    except Refused as fault:
+        print(f"draw.py: {fault}", file=sys.stderr)
+        return 2
     except (Failed, NoPicture, OSError) as fault:
         print(f"draw.py: {fault}", file=sys.stderr)
         return 1

@@ -16,6 +16,7 @@ from .workbench import __version__
 from .workbench.faults import Missing, Refused
 
 if TYPE_CHECKING:
+    from . import exercises, figures, senders
     from .checking import Checked, check
     from .comparing import Compared, Found, compare, find
     from .playing import Chain, Play, chain, condition, make, play, shares
@@ -35,13 +36,16 @@ _MODULES = {
     "verifying": ("Verified", "verify"),
 }
 _MODULE = {name: module for module, names in _MODULES.items() for name in names}
+_PARTS = ("exercises", "figures", "senders")  # modules that are used by their names
 
 __all__ = ["Chain", "Checked", "Compared", "Found", "Missing", "Play", "Program", "Refused", "Verified", "__version__", "capture", "chain", "check",
-           "compare", "condition", "fates", "find", "make", "play", "program", "shares", "sweep", "verify"]
+           "compare", "condition", "exercises", "fates", "figures", "find", "make", "play", "program", "senders", "shares", "sweep", "verify"]
 
 
 def __getattr__(name: str) -> Any:
     """A name of this package that was not asked for before."""
+    if name in _PARTS:
+        return importlib.import_module(f".{name}", __name__)
     if name not in _MODULE:
         raise AttributeError(f"module {__name__} has no attribute {name}")
     found = getattr(importlib.import_module(f".{_MODULE[name]}", __name__), name)

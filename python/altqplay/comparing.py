@@ -2,6 +2,7 @@
 
 from __future__ import annotations
 
+import io
 import os
 from argparse import Namespace
 from concurrent.futures import ThreadPoolExecutor
@@ -13,6 +14,7 @@ import pandas
 from .workbench import find as finding
 from .workbench import wants as asked
 from .workbench.faults import Refused
+from .workbench.foreign import float_of, number_text, tidied
 from .workbench.rows import FATES_HEAD
 from .workbench.texts import Times
 
@@ -48,10 +50,10 @@ class Compared:
         return f"<altqplay.Compared: {len(self.packets)} packets changed, the first is {self.first}>"
 
 
-def compare(first: Sided, second: Sided, rules: bool = True) -> Compared:
+def compare(first: Sided, second: Sided, rules: bool = True, *, foreign: bool = False) -> Compared:
     """Compares two plays of the same arrivals, each a play, a table of fates or a file of fates; rows of another program may say `sent`
-    and `dropped`, and stand in any order. Without `rules` it does not matter by which rule a packet was sent or dropped. `Refused`
-    where they are of other packets, arrivals or lengths.
+    and `dropped`, and stand in any order, and with `foreign` have quotes and floats such as `214000.0`. Without `rules` it does not
+    matter by which rule a packet was sent or dropped. `Refused` where they are of other packets, arrivals or lengths.
 
     >>> import altqplay
     >>> packets = pandas.DataFrame({"time_ns": [0, 0], "length": [1000, 1000]})
@@ -59,7 +61,7 @@ def compare(first: Sided, second: Sided, rules: bool = True) -> Compared:
     >>> compare(slow, fast).packets[["number", "moved"]].values.tolist()
     [[1, -500000], [2, -1000000]]
     """
-    sides = [fates_of(one) for one in (first, second)]
+    sides = [fates_of(one, foreign) for one in (first, second)]
     if not rules:
         sides = [side.assign(fate=["sent" if is_sent else "dropped" for is_sent in side["end"].notna()]) for side in sides]
     odd = sorted(set(sides[0]["number"]) ^ set(sides[1]["number"]))
@@ -73,11 +75,12 @@ def compare(first: Sided, second: Sided, rules: bool = True) -> Compared:
     return Compared(both.drop(columns=["arrival_second", "length_second"]))
 
 
-def fates_of(side: Sided) -> pandas.DataFrame:
+def fates_of(side: Sided, foreign: bool = False) -> pandas.DataFrame:
     """The fates of a play, a table or a file, each number once and whole numbers as such."""
     if isinstance(side, Play):
         return side.fates
-    words = tables.values(side) if not isinstance(side, pandas.DataFrame) else side
+    data = None if isinstance(side, pandas.DataFrame) else givens.data_of(side)
+    words = side if data is None else tables.values(io.BytesIO(tidied(data, False) if foreign else data))
     missing = [column for column in FATES_HEAD if column not in words]
     if missing:
         raise Refused(f"fates: the column {missing[0]} is missing")
@@ -97,7 +100,8 @@ def whole(column: str, values: Iterable[object]) -> object:
         return tables.numbers([int(word) if word else None for word in words])
     except ValueError:
         wrong = next(word for word in words if word and not word.lstrip("-").isdigit())
-        raise Refused(f"fates: {column} is no whole number: {wrong}") from None
+        told = number_text(column, wrong) or f"{column} is no whole number"
+        raise Refused(f"fates: {told}: {wrong}" + ("; foreign=True takes it" if float_of(wrong) is not None else "")) from None
 
 
 @dataclass(frozen=True)

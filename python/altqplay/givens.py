@@ -11,15 +11,14 @@ from typing import Any, NamedTuple, Optional, Union
 import pandas
 
 from .workbench.faults import Refused
+from .workbench.foreign import MOST_OF_FLOAT, number_text, plain_head, plain_row
 from .workbench.rows import DROPPED, FATES_HEAD, SENT
 
 Fates = Union[str, "os.PathLike[str]", pandas.DataFrame]
 
 HEAD = ",".join(FATES_HEAD)
 DECIMAL = re.compile("0|[1-9][0-9]*")
-FLOAT = re.compile(r"([0-9]+)\.0*(?:[eE]\+?([0-9]+))?|([0-9]+)[eE]\+?([0-9]+)")
 BOUNDS = {"number": 2**64, "arrival": 2**64, "length": 2**32, "start": 2**64, "end": 2**64}
-MOST_OF_FLOAT = 2**53
 TEXT, READING = "text", "reading"
 
 
@@ -121,11 +120,6 @@ def given_of(data: bytes, names: dict[str, str], foreign: bool) -> Given:
     return found
 
 
-def plain_head(head: str) -> str:
-    """A head row without what other programs put there: quotes, blanks, CRLF, a mark of UTF-8."""
-    return re.sub(r'["\s]|^\xef\xbb\xbf', "", head)
-
-
 def packet_of(line: bytes) -> Optional[int]:
     """The packet that a faulty row names, if it names one."""
     word = line.split(b",")[0].decode("latin-1")
@@ -134,11 +128,9 @@ def packet_of(line: bytes) -> Optional[int]:
 
 def row_of(row: int, line: str, names: dict[str, str], ways: Optional[Counter]) -> Row:
     """The row of a line. `Fault` says what it lacks; `ways` counts what is taken otherwise, and is None where nothing is."""
-    if line.endswith("\r"):
-        line = taken(ways, line[:-1], "the line ends with CRLF, as Windows and csv of Python write it", "CRLF", "a line feed alone")
-    if '"' in line:
-        line = taken(ways, line.replace('"', ""), "fields stand in quotes", line, line.replace('"', ""))
-    words = line.split(",")
+    words, foreign = plain_row(line)
+    for way in foreign:
+        taken(ways, "", way.text, way.found, way.expected)
     if len(words) != len(FATES_HEAD):
         raise Fault(line, HEAD, f"{len(words)} fields, and not {len(FATES_HEAD)}")
     name, fate = words[3], words[4]
@@ -151,7 +143,7 @@ def row_of(row: int, line: str, names: dict[str, str], ways: Optional[Counter]) 
         raise Fault(fate, ", ".join(SENT + DROPPED), "no fate of this name")
     if fate in DROPPED and words[5:] != ["", ""]:
         raise Fault(",".join(words[5:]), "two empty fields", "a packet that was dropped has no start and no end")
-    values = {what: number_of(what, word, ways) for what, word in zip(FATES_HEAD, words) if what in BOUNDS and (word or fate not in DROPPED)}
+    values = {what: number_of(what, word) for what, word in zip(FATES_HEAD, words) if what in BOUNDS and (word or fate not in DROPPED)}
     return Row(row, values["number"], values["arrival"], values["length"], name, fate, values.get("start"), values.get("end"))
 
 
@@ -163,14 +155,10 @@ def taken(ways: Optional[Counter], ours: str, way: str, found: str, expected: st
     return ours
 
 
-def number_of(what: str, word: str, ways: Optional[Counter]) -> int:
+def number_of(what: str, word: str) -> int:
     """A number of a row."""
-    match = FLOAT.fullmatch(word)
-    if match:
-        value = int(match[1] or match[3]) * 10 ** int(match[2] or match[4] or 0)
-        if value > MOST_OF_FLOAT:
-            raise Fault(word, "a whole number", f"{what} is a float above 2^53, which has lost digits, as pandas makes of a column with empty fields: write it as Int64")
-        word = taken(ways, str(value), f"{what} is a float, as pandas makes of a column with empty fields", word, str(value))
+    if number_text(what, word):
+        raise Fault(word, "a whole number", number_text(what, word))
     if not DECIMAL.fullmatch(word):
         raise Fault(word, "a whole number", f"{what} is no whole number in decimal digits without leading zeros")
     if int(word) >= BOUNDS[what]:

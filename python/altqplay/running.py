@@ -18,7 +18,6 @@ from .workbench.faults import refusal
 ROOM = re.compile(r"\S*/altqplay-[a-z0-9_]{8}/")  # a folder of a play, which is gone when its message is read
 
 
-
 @dataclass(frozen=True)
 class Program:
     """The program that is run: its path, and the version that it says, empty where it says none."""

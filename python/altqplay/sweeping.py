@@ -242,5 +242,3 @@ def remote(tasks: list[Task], scheduler: str, files: list[str]) -> Iterator[tupl
 def of_tuple(item: Sequence[Any], paths: Mapping[str, str]) -> list[dict[str, Any]]:
     """The rows of a play that came from another machine."""
     return played(Task(*item), paths)
-
-

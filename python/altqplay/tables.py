@@ -8,13 +8,14 @@ which a drop has `<NA>`; a column with numbers of 2^63 and more holds Python's o
 from __future__ import annotations
 
 import os
-from typing import Any, Optional, Sequence, Union
+from typing import IO, Any, Optional, Sequence, Union
 
 import numpy
 import pandas
 
 from .workbench.captures import records
 from .workbench.columns import Fates
+from .workbench.faults import Foreign
 from .workbench.rows import read_fates
 from .workbench.rules.frames import type_of_service
 
@@ -45,12 +46,16 @@ def fates_of(fates: Fates) -> pandas.DataFrame:
         "start": nullable(fates.start, fates.is_sent), "end": nullable(fates.end, fates.is_sent)})
 
 
-def fates(name: Name) -> pandas.DataFrame:
-    """A file of fates as a table, exact (`fates_of`)."""
-    return fates_of(read_fates(os.fspath(name)))
+def fates(name: Name, foreign: bool = False) -> pandas.DataFrame:
+    """A file of fates as a table, exact (`fates_of`); with `foreign` rows of another program are taken that say the same in another way:
+    `sent` and `dropped`, CRLF, quotes, and floats such as `214000.0`."""
+    try:
+        return fates_of(read_fates(os.fspath(name), foreign))
+    except Foreign as fault:
+        raise Foreign(f"{fault}; foreign=True takes it") from None
 
 
-def values(name: Name) -> pandas.DataFrame:
+def values(name: Union[Name, IO[bytes]]) -> pandas.DataFrame:
     """A file of comma-separated values as a table; a column in which each field is a whole number or empty is exact."""
     table = pandas.read_csv(name, dtype=str, keep_default_na=False)
     for column in table.columns:

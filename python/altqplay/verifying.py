@@ -18,12 +18,11 @@ from .givens import HEAD as FATES_HEAD
 from .givens import Failure, Fates, Given, Row
 from .inputs import Conf, Packets
 from .playing import Play, Text, by
-from .running import run
+from .running import named_alone, run
 
 REFUTED = 10  # the status of fates that are not verified
 OF_PROGRAM = 9  # the last test that the program makes
 MICROSECONDS = b"\xd4\xc3\xb2\xa1"
-COLUMNS = list(Failure._fields)
 
 
 class Verified:
@@ -32,8 +31,10 @@ class Verified:
     `failures` has every failure, the earliest row first; `table` is the same as a DataFrame. `worst` has for each class with a
     real-time curve how many nanoseconds its latest packet ends after its due moment, below 0 where it is early, None without one.
     `remarks` are sentences on what was taken otherwise than the program takes it. `said` is what the program says of the rows that were
-    taken, and None where it was not asked.
+    taken, and None where it was not asked. `columns` are those of the table.
     """
+
+    columns = list(Failure._fields)
 
     def __init__(self, failures: Iterable[Failure], worst: dict[str, Optional[int]], remarks: list[str], said: Optional[str]) -> None:
         self.failures = sorted(failures, key=lambda one: (one.row, one.kind))
@@ -51,13 +52,18 @@ class Verified:
     @property
     def table(self) -> pandas.DataFrame:
         """The failures, a row for each."""
-        return pandas.DataFrame(self.failures, columns=COLUMNS)
+        return pandas.DataFrame(self.failures, columns=self.columns)
+
+    def lines(self, shown: int = 10) -> list[str]:
+        """What was found in lines, so many failures at most, and the remarks."""
+        lines = [f"not verified, {len(self.failures)} {'failure' if len(self.failures) == 1 else 'failures'}:" if self.failures else "verified"]
+        lines += [f"  line {one.line} (row {one.row}){'' if one.packet is None else f', packet {one.packet}'}, {one.test}: {one.found}, expected {one.expected}: {one.because}"
+                  for one in self.failures[:shown]]
+        lines += [f"  and {len(self.failures) - shown} more"] if len(self.failures) > shown else []
+        return lines + [f"  {remark}" for remark in self.remarks]
 
     def __repr__(self) -> str:
-        lines = [f"not verified, {len(self.failures)} {'failure' if len(self.failures) == 1 else 'failures'}:" if self.failures else "verified"]
-        lines += [f"  line {one.line} (row {one.row}), packet {one.packet}, {one.test}: {one.found}, expected {one.expected}: {one.because}" for one in self.failures[:10]]
-        lines += [f"  and {len(self.failures) - 10} more"] if len(self.failures) > 10 else []
-        return Text("\n".join(lines + [f"  {remark}" for remark in self.remarks]))
+        return Text("\n".join(self.lines()))
 
 
 def verify(conf: Conf, packets: Packets, fates: Fates, departures: Union[str, "os.PathLike[str]", None] = None, *, foreign: bool = False,
@@ -150,7 +156,7 @@ class Judge:
                 return None  # an end is of no capture
         status, said, hint = run(["verify", "--config", self.played.config, "--interface", self.played.interface.name, "--arrivals", self.played.arrivals,
                                   "--departures", own or departures, "--fates", fates], self.played.program, (0, REFUTED))
-        return Text(f"{said}{hint}".strip())
+        return Text(named_alone(f"{said}{hint}".strip()))
 
     def frames(self) -> list[bytes]:
         """The bytes that each packet may leave with, by number, without marks of congestion: as it came, marked by its conditioner,

@@ -177,7 +177,7 @@ def replayed(chance, seed, folder, program=None):
     with open(arrivals, "wb") as file:
         file.write(capture)
     fates = play(config, "if0", arrivals, folder, seed, program).fates
-    replay = Replay(question(Namespace(fates=fates, config=config, interface=None, program=program, arrivals=arrivals, seed=seed)))
+    replay = Replay(question(Namespace(fates=fates, config=config, interface=None, program=program, arrivals=arrivals, seed=seed, foreign=False)))
     replay.decisions(lambda _decision: None)
     return replay
 

@@ -138,7 +138,7 @@ def test_fraction_of_a_run():
     (HEAD + "1,0,1000,a,sent,0\n", "line 2 (row 1): 6 words, and not 7"),
     (HEAD + "1,0,1000,a,gone,0,1\n", "line 2 (row 1): no fate: 'gone'"),
     (HEAD + "1,0,1000,a,dropped,0,1\n", "line 2 (row 1): a packet that was dropped has a start"),
-    (HEAD + "1,0,1e3,a,sent,0,1\n", "line 2 (row 1): length is no whole number"),
+    (HEAD + "1,0,1e3,a,sent,0,1\n", "line 2 (row 1): length is a float"),
     (HEAD + "1,0,1000,a,sent,0,1\n1,0,1000,a,sent,1,2\n", "line 3 (row 2): packet 1 has two fates"),
 ])
 def test_faulty_journals(tmp_path, text, said):

@@ -11,7 +11,8 @@ import pytest
 from conftest import ROOT
 
 FOLDER = os.path.join(ROOT, "docs", "teaching", "notebooks")
-SAID = {"first-play": ["verified", "it goes by share"], "own-scheduler": ["packet 13, due moments", "expected at most 11400000", "ends", "10200000"]}
+SAID = {"first-play": ["verified", "it goes by share"], "figures": ["32200000", "15600000", "least deadline first", "4740"],
+        "own-scheduler": ["packet 13, due moments", "expected at most 11400000", "ends", "10200000"]}
 
 
 def test_each_notebook_is_tried():

@@ -26,7 +26,7 @@ PACKETS = pandas.DataFrame({"time_ns": [MOMENT] * 4 + [MOMENT + 10_000_000], "le
 pytestmark = pytest.mark.usefixtures("program")
 
 
-@pytest.mark.parametrize("name", [f"altqplay.{one.name}" for one in pkgutil.iter_modules(altqplay.__path__)] + ["altqplay.workbench.faults"])
+@pytest.mark.parametrize("name", [f"altqplay.{one.name}" for one in pkgutil.iter_modules(altqplay.__path__)] + ["altqplay.workbench.faults", "altqplay.workbench.figure_plays"])
 def test_examples_of_docstrings(name):
     assert doctest.testmod(importlib.import_module(name)).failed == 0
 

@@ -14,6 +14,7 @@ import pytest
 import altqplay
 from altqplay import sweeping
 from altqplay.inputs import capture_file
+from conftest import ROOT
 
 CONF = """interface if0 bandwidth 8M hfsc
 class hfsc if0 root NULL pshare 100
@@ -77,7 +78,8 @@ def scheduler(tmp_path):
     port, env = free_port(), {"PATH": os.environ["PATH"], "HOME": str(tmp_path), "PYTHONDONTWRITEBYTECODE": "1"}
     address = f"tcp://127.0.0.1:{port}"
     words = [["scheduler", "--host", "127.0.0.1", "--port", str(port), "--no-dashboard"], *[["worker", address, "--nthreads", "1", "--no-nanny", "--no-dashboard"]] * 2]
-    started = [subprocess.Popen([sys.executable, "-m", f"distributed.cli.dask_{kind}", *rest], env=env, cwd=tmp_path, stdout=subprocess.DEVNULL, stderr=subprocess.DEVNULL) for kind, *rest in words]
+    with open(tmp_path / "cluster.log", "wb") as log:
+        started = [subprocess.Popen([sys.executable, "-m", f"distributed.cli.dask_{kind}", *rest], env=env, cwd=tmp_path, stdout=log, stderr=log) for kind, *rest in words]
     yield address, started
     for one in started:
         one.kill()
@@ -109,6 +111,87 @@ def test_a_cluster_whose_worker_is_killed_makes_the_same_table(scheduler):
     finally:
         sweeping.Cluster.answers = real
     assert killed and table.equals(plain)
+
+
+def begun(tmp_path, *more):
+    """A sweep of many plays by the command line, after a few of them are done."""
+    (tmp_path / "altq.conf").write_text(CONF)
+    capture_file(PACKETS, str(tmp_path))
+    words = ["sweep", "altq.conf", "--set", f"lo qlimit={','.join(map(str, range(1, 801)))}", "--no-plot", "--into", "swept", *more, "--arrivals", "arrivals.pcap"]
+    with open(tmp_path / "said", "wb") as said:
+        client = subprocess.Popen([sys.executable, "-B", os.path.join(ROOT, "python", "altqplay", "workbench"), *words], cwd=tmp_path, stdout=said, stderr=said)
+    store, until = tmp_path / "swept" / "runs.jsonl", time.monotonic() + 120
+    while not store.exists() or store.read_text().count("{") < 3:
+        assert client.poll() is None and time.monotonic() < until, (tmp_path / "said").read_text()
+        time.sleep(0.05)
+    return client
+
+
+def below(process):
+    """The processes that a process began."""
+    found = []
+    for name in os.listdir("/proc"):
+        if name.isdigit():
+            try:
+                with open(f"/proc/{name}/stat", encoding="utf-8", errors="replace") as file:
+                    found += [int(name)] if int(file.read().rpartition(")")[2].split()[1]) == process else []
+            except OSError:
+                pass
+    return found
+
+
+def is_there(process):
+    """Whether a process runs."""
+    try:
+        with open(f"/proc/{process}/stat", encoding="utf-8", errors="replace") as file:
+            return file.read().rpartition(")")[2].split()[0] != "Z"
+    except OSError:
+        return False
+
+
+ENDINGS = [(signal.SIGINT, 130), (signal.SIGTERM, 143), (signal.SIGKILL, -9)]
+
+
+@pytest.mark.skipif(sys.platform != "linux", reason="the children are found in /proc")
+@pytest.mark.parametrize("ending, status", ENDINGS)
+def test_a_killed_sweep_leaves_no_traceback_and_no_process(ending, status, tmp_path):
+    client = begun(tmp_path, "--jobs", "2")
+    children = below(client.pid)
+    client.send_signal(ending)
+    assert client.wait(60) == status and children
+    until = time.monotonic() + 60
+    while any(map(is_there, children)):
+        assert time.monotonic() < until
+        time.sleep(0.05)
+    assert "Traceback" not in (tmp_path / "said").read_text()
+
+
+@pytest.mark.skipif(sys.platform != "linux", reason="the children are found in /proc")
+def test_a_killed_process_of_a_sweep_is_told_in_a_sentence(tmp_path):
+    client = begun(tmp_path, "--jobs", "2")
+    os.kill(below(client.pid)[0], signal.SIGKILL)
+    assert client.wait(60) == 2
+    said = (tmp_path / "said").read_text()
+    assert "Traceback" not in said and said.endswith("altqwork: a process of the sweep was killed; what was played before is kept, and the same command goes on from there\n")
+
+
+@needs_dask
+@pytest.mark.parametrize("ending, status", ENDINGS)
+def test_a_killed_client_leaves_no_traceback_and_free_workers(ending, status, scheduler, tmp_path):
+    from dask import distributed
+
+    address, _started = scheduler
+    with distributed.Client(address, timeout="60s") as other:
+        other.wait_for_workers(2, timeout=60)
+        client = begun(tmp_path, "--scheduler", address)
+        client.send_signal(ending)
+        assert client.wait(60) == status
+        until = time.monotonic() + 60
+        while any(other.processing().values()):
+            assert time.monotonic() < until, other.processing()
+            time.sleep(0.1)
+        assert other.submit(sum, [1, 2]).result(60) == 3 and len(other.scheduler_info()["workers"]) == 2
+    assert "Traceback" not in (tmp_path / "said").read_text() + (tmp_path / "cluster.log").read_text()
 
 
 @needs_dask

@@ -34,8 +34,9 @@ def test_both_readers_agree(tmp_path_factory, drawn):
     (HEAD + "1,2,3,a,lost,4,5\n", "no fate: 'lost'"), (HEAD + "1,2,3,a,full,4,5\n", "dropped has a start"), (HEAD + "1,2,3,a,share,,\n", "line 2 (row 1): start"),
     (HEAD + "1,2,3,a,share,-1,-1\n", "line 2 (row 1): start"), (HEAD + f"1,{2**63},3,a,share,4,5\n", "line 2 (row 1): arrival"), (HEAD + "1,2,3,a b,share,4,5\n", "no name of a class"),
     (HEAD + "1,2,3,a,share,4,5\n1,2,3,a,full,,\n", "packet 1 has two fates"), (HEAD + "1,2,3,a,share,4,5", "cut"), (HEAD + "1,2,3,a,full,,\n1,2,3,a,sh", "line 3 (row 2)"),
-    *((HEAD + f"{number},2,3,a,share,4,5\n", "line 2 (row 1): number") for number in ("", " 5", "+5", "5.0", "1e3", "05", "1_0", "0x1", "True", "5 ", '"5"')),
-    (HEAD + "1,2,3,a,share,4,5\r\n", "line 2 (row 1): end"), (HEAD + "1,2,3,\u00e4,share,4,5\n", "no name of a class"), (HEAD + "\n", "line 2 (row 1): 1 words"),
+    *((HEAD + f"{number},2,3,a,share,4,5\n", "line 2 (row 1): number") for number in ("", " 5", "+5", "5.0", "1e3", "05", "1_0", "0x1", "True", "5 ")),
+    (HEAD + '"5",2,3,a,share,4,5\n', "line 2 (row 1): fields stand in quotes"),
+    (HEAD + "1,2,3,a,share,4,5\r\n", "line 2 (row 1): the line ends with CRLF"), (HEAD + "1,2,3,\u00e4,share,4,5\n", "no name of a class"), (HEAD + "\n", "line 2 (row 1): 1 words"),
     (HEAD + "1e3,2,3,a,share,4,5\n1001.,2,3,a,share,4,5\n", "line 2 (row 1): number")])
 def test_what_is_no_fates(tmp_path, text, why):
     (tmp_path / "f.csv").write_text(text)

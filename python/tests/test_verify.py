@@ -85,8 +85,8 @@ def test_foreign_ways_are_named_and_taken_with_a_flag(fates, tmp_path):
     found = altqplay.verify(CONF, PACKETS, name, foreign=True)
     assert found and found.said.endswith("verified")
     assert [re.sub(r"^\d+ rows?: ", "", one) for one in found.remarks] == [
-        "the line ends with CRLF, as Windows and csv of Python write it", "`dropped` tells no rule: it is taken as `full`", "`sent` tells no rule: it is taken as `share`",
-        "start is a float, as pandas makes of a column with empty fields", "end is a float, as pandas makes of a column with empty fields"]
+        "the line ends with CRLF, as Windows and csv of Python write it", "`dropped` tells no rule: it is taken as `full`",
+        "start is a float, as pandas makes of a column with empty fields", "end is a float, as pandas makes of a column with empty fields", "`sent` tells no rule: it is taken as `share`"]
 
 
 @pytest.mark.parametrize("line, text", [

@@ -1,7 +1,8 @@
 """The command line: finds the subcommand, runs it, and turns faults into a line and a status.
 
 A subcommand is a module with NAME, HELP, `add_arguments(parser)` and `run(args)`, which answers the exit status. 0 and 1
-are the subcommand's own answers, 2 says that the words or an input were refused, 77 that a tool or a library is missing.
+are the subcommand's own answers, 2 says that the words or an input were refused, 77 that a tool or a library is missing, 130 that it was
+interrupted.
 """
 
 import argparse
@@ -11,7 +12,7 @@ import os
 import sys
 
 from . import __version__
-from .faults import Missing, Refused
+from .faults import Foreign, Missing, Refused
 from .libraries import advice
 from .play import usage
 from .printable import Printed
@@ -25,6 +26,7 @@ MODULES = {
     "import": "importing",
     "compare": "compare",
     "why": "why",
+    "verify": "verify",
     "sweep": "sweep",
     "find": "find",
     "chain": "chain",
@@ -33,7 +35,7 @@ MODULES = {
     "path": "path",
     "try": "trying",
 }
-REFUSED, MISSING = 2, 77
+REFUSED, MISSING, INTERRUPTED = 2, 77, 130
 
 
 def load(name):
@@ -92,6 +94,7 @@ def main(words=None):
 
 def answered(words):
     """Runs the words of a command line and answers the exit status."""
+    args = None
     try:
         args = parser_of(words).parse_args(words)
         status = args.run(args)
@@ -100,8 +103,12 @@ def answered(words):
     except BrokenPipeError:  # who reads wants no more: nothing is said of it, and nothing more written
         os.dup2(os.open(os.devnull, os.O_WRONLY), sys.stdout.fileno())
         return 0
+    except KeyboardInterrupt:
+        print("altqwork: interrupted", file=sys.stderr)
+        return INTERRUPTED
     except (Refused, OSError) as fault:
-        print(f"altqwork: {fault}", file=sys.stderr)
+        can_take = isinstance(fault, Foreign) and hasattr(args, "foreign")
+        print(f"altqwork: {fault}" + ("; --foreign takes it" if can_take else ""), file=sys.stderr)
         return REFUSED
     except Missing as fault:
         print(f"altqwork: {fault}", file=sys.stderr)

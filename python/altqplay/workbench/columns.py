@@ -8,6 +8,7 @@ from __future__ import annotations
 import numpy
 
 from .faults import Refused
+from .foreign import tidied
 from .rows import DROPPED, FATES_HEAD, NAME, OUTCOMES, PATH_HEAD, SENT, fate_rows, path_rows
 
 WORD = 8
@@ -165,12 +166,13 @@ def file_of(name: str) -> bytes:
         return file.read()
 
 
-def read(name: str) -> Fates:
+def read(name: str, is_foreign: bool = False) -> Fates:
     """The fates of a file as `Fates`. `Refused` names the first row that is none, or the packet that has two."""
     try:
-        found = Fates(name, Fields(file_of(name), FATES_HEAD))
+        data = file_of(name)
+        found = Fates(name, Fields(tidied(data) if is_foreign else data, FATES_HEAD))
     except ValueError:
-        for _row in fate_rows(name):
+        for _row in fate_rows(name, is_foreign):
             pass
         raise Refused(f"{name}: no fates") from None
     ranked = numpy.sort(found.number)

@@ -40,7 +40,8 @@ def add_arguments(parser):
     parser.add_argument("--late", type=int, metavar="N", help="also says which packets take more than N nanoseconds in the second alone")
     parser.add_argument("--length", type=int, metavar="N", help="looks only at packets of N bytes")
     parser.add_argument("--class", dest="name", metavar="NAME", help="looks only at packets that are of this class in both")
-    parser.add_argument("--foreign", action="store_true", help="tests the second file first, as another program wrote it")
+    parser.add_argument("--foreign", action="store_true", help="takes rows of another program, as CRLF and floats, and tests the second file first")
+    parser.add_argument("--each-rounded", action="store_true", help="takes ends that are rounded packet by packet, as ns-3 has them, in the test of --foreign")
     parser.add_argument("--config", metavar="FILE", help="the configuration of the plays, for --foreign")
     parser.add_argument("--arrivals", metavar="FILE", help="the capture of the arrivals, for --foreign")
     parser.add_argument("--bandwidth", type=int, metavar="BITS", help="bits per second of the link, for --foreign without --config")
@@ -147,14 +148,15 @@ def with_line(text):
 
 
 def tested(args, second):
-    """The lines on whether the second file can be what a link did, and how many tests fail."""
-    answer = verified(args, second) if args.config and args.arrivals else None
+    """The lines on whether the second file can be what a link did, and how many tests fail. The program takes no ends that are rounded
+    packet by packet, so the plain tests stand for it where these are taken."""
+    answer = verified(args, second) if args.config and args.arrivals and not args.each_rounded else None
     if answer is not None:
         return [f"altqplay verify: {with_line(line)}" for line in answer[0]], int(answer[1] != 0)
     bandwidth = args.bandwidth
     if args.config:
         bandwidth = read_conf(args.config, args.interface, args.program).bandwidth
-    found = faults(second, bandwidth)
+    found = faults(second, bandwidth, args.each_rounded)
     ends = "ends" if bandwidth else "not ends, since no --config or --bandwidth tells them"
     lines = [f"plain tests of the second (order, starts, one packet at a time, {ends}): {len(found) or 'none'} fail; this is no proof"]
     return lines + [f"  packet {fate.number} {text}" for fate, text in found[:SHOWN]], len(found)
@@ -176,7 +178,7 @@ def by_class(first, second, times):
 
 
 def run(args):
-    first, second = read_journal(args.first_file), read_journal(args.second_file)
+    first, second = (read_journal(name, args.foreign) for name in (args.first_file, args.second_file))
     same_arrivals(first, second)
     lines, failed = tested(args, second) if args.foreign else ([], 0)
     if args.ignore_rule:

@@ -19,6 +19,7 @@ from typing import TYPE_CHECKING, Optional
 
 from .conf import read_conf
 from .faults import Refused
+from .foreign import add_foreign
 from .play import add_program
 from .texts import Times, add_times, aligned
 
@@ -36,6 +37,7 @@ RANKS = (0, 50, 99, 100)  # of a hundred delays; 0 is the least
 def add_arguments(parser: ArgumentParser) -> None:
     parser.add_argument("--config", metavar="FILE", help="a configuration of the plays, in whose order the classes stand")
     add_program(parser)
+    add_foreign(parser)
     add_times(parser)
     parser.add_argument("first", help="fates")
     parser.add_argument("second", help="fates of the same arrivals")
@@ -95,7 +97,7 @@ def run(args: Namespace) -> int:
     from .rows import read_fates
 
     known = read_conf(args.config, args.interface, args.program).classes if args.config else ()
-    first, second = (Numbered.of_fates(read_fates(name)) for name in (args.first, args.second))
+    first, second = (Numbered.of_fates(read_fates(name, args.foreign)) for name in (args.first, args.second))
     same_arrivals(first, second)
     rows, changed = class_rows(first, second, classes_of(first, second, known), Times(args.ns))
     print("\n".join(aligned(rows)))

@@ -49,6 +49,10 @@ class Refused(Exception):
         return type(self), (str(self), self.status, self.kind, self.name, self.line, self.word, self.place, self.message, self.hint)
 
 
+class Foreign(Refused):
+    """A row that another program wrote otherwise than `altqplay` does, but that says the same."""
+
+
 class Missing(Exception):
     """A program or a library is not on this machine; the text names it."""
 

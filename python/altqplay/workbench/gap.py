@@ -17,6 +17,7 @@ from collections import Counter, namedtuple
 
 from .conf import read_conf
 from .faults import Refused
+from .foreign import add_foreign
 from .gap_picture import picture
 from .play import add_program
 from .rows import fate_rows, place
@@ -39,13 +40,14 @@ def add_arguments(parser):
     parser.add_argument("--picture", metavar="FILE", help="draws the gap over time, as SVG")
     parser.add_argument("--bound", type=int, metavar="N", help="the line of the picture, where the pair has no bound")
     add_program(parser)
+    add_foreign(parser)
     add_times(parser)
 
 
-def fates_of(name, interface):
+def fates_of(name, interface, is_foreign=False):
     """The fates of a file, in its order. `Refused` where one is of a class that the interface does not have."""
     found, known = [], interface.classes or ("default",)
-    for row, fate in enumerate(fate_rows(name), 2):
+    for row, fate in enumerate(fate_rows(name, is_foreign), 2):
         if fate.name not in known:
             raise Refused(f"{name}: {place(row)}: {fate.name} is no class of {interface.name}")
         found.append(fate)
@@ -204,7 +206,7 @@ def pair_of(args, interface):
 
 def run(args):
     interface = read_conf(args.config, args.interface, args.program)
-    fates, times = fates_of(args.fates, interface), Times(args.ns)
+    fates, times = fates_of(args.fates, interface, args.foreign), Times(args.ns)
     longest = longest_of(fates)
     if not pairs(interface):
         print(f"{interface.name}: no two classes of HFSC have one parent")

@@ -7,7 +7,8 @@ its rows may stand in any order. The tests here are plain sums: that they pass i
 import csv
 
 from .faults import Refused
-from .rows import DROPPED, FATES_HEAD, SENT, Fate, place, whole
+from .foreign import EACH_ROUNDED
+from .rows import DROPPED, FATES_HEAD, SENT, Fate, opened, place, whole
 
 BYTE = 8 * 10**9
 SENT_WORDS, DROPPED_WORDS = (*SENT, "sent"), (*DROPPED, "dropped")
@@ -27,9 +28,10 @@ def entry(name, line, row):
     return Fate(*numbers, row[3], row[4], *times)
 
 
-def read_journal(name):
-    """The fates of a journal by number. `Refused` names the first row that is none, or the packet that has two."""
-    with open(name, newline="", encoding="ascii", errors="replace") as file:
+def read_journal(name, is_foreign=False):
+    """The fates of a journal by number. `Refused` names the first row that is none, or the packet that has two; with `is_foreign` floats
+    of another program are taken."""
+    with opened(name, is_foreign, False) as file:
         rows, found = csv.reader(file), {}
         if next(rows, None) != FATES_HEAD:
             raise Refused(f"{name}: its first row is not that of fates")
@@ -87,8 +89,14 @@ def order_faults(sent):
         last[fate.name] = max(fate.number, last.get(fate.name, 0))
 
 
-def link_faults(sent, bandwidth):
-    """The sendings that the link could not carry so: they overlap, or do not end as the run's bytes tell, rounded up once."""
+def is_each_rounded(start, end, length, bandwidth):
+    """Whether an end is that of its packet alone, rounded up or down."""
+    return end - start in (BYTE * length // bandwidth, -(-BYTE * length // bandwidth))
+
+
+def link_faults(sent, bandwidth, each_rounded=False):
+    """The sendings that the link could not carry so: they overlap, or do not end as the run's bytes tell, rounded up once; with
+    `each_rounded` an end may be that of its packet alone."""
     free, run, length = -1, 0, 0
     for fate in sent:
         if fate.start < free:
@@ -96,12 +104,14 @@ def link_faults(sent, bandwidth):
         run, length = (run, length + fate.length) if fate.start == free else (fate.start, fate.length)
         end = None if bandwidth is None else run + -(-BYTE * length // bandwidth)
         if end is not None and fate.end != end:
-            yield fate, f"ends otherwise than at {end}, as the bytes of its run since {run} tell"
+            is_alone = is_each_rounded(fate.start, fate.end, fate.length, bandwidth)
+            if not (each_rounded and is_alone):
+                yield fate, f"ends otherwise than at {end}, as the bytes of its run since {run} tell" + (f"; {EACH_ROUNDED}: --each-rounded takes it" if is_alone else "")
         free = fate.end
 
 
-def faults(journal, bandwidth):
+def faults(journal, bandwidth, each_rounded=False):
     """What of a journal no link with first-in-first-out classes can do, in the order of decision; ends by a bandwidth, or None."""
     sent = [fate for fate in by_moment(journal) if fate.start is not None]
-    found = list(order_faults(sent)) + list(link_faults(sent, bandwidth))
+    found = list(order_faults(sent)) + list(link_faults(sent, bandwidth, each_rounded))
     return sorted(found, key=lambda pair: moment(pair[0]))

@@ -241,4 +241,3 @@ def notes_of_order(rules: List[Rule], interface: Interface, interfaces: List[Int
     others = {name for rule in rules if rule.queues and rule.direction != "out" for name in rule.interfaces} - {interface.name}
     if len(others) > 1:
         notes.say(f"a capture does not show where a packet came in: rules of {', '.join(sorted(others))} are asked of all packets")
-

@@ -11,9 +11,10 @@ from collections import namedtuple
 from .faults import Missing, refusal
 
 HERE = os.path.dirname(os.path.abspath(__file__))
-RULE = os.path.join(HERE, "..", "..", "..", "release", "program")  # of the repository: prints the path of its program
+TOP = os.path.dirname(os.path.dirname(HERE))  # where Python finds this package
+RULE = os.path.join(os.path.dirname(TOP), "release", "program")  # of the repository: prints the path of its program
 # Where a package has it: a wheel, and what is unpacked below a folder that has bin/ and share/.
-PACKED = [os.path.join(HERE, "..", "bin", "altqplay"), os.path.join(HERE, "..", "..", "..", "..", "bin", "altqplay")]
+PACKED = [os.path.join(TOP, "altqplay", "bin", "altqplay"), os.path.join(os.path.dirname(os.path.dirname(TOP)), "bin", "altqplay")]
 
 # The files of a play.
 Played = namedtuple("Played", "departures fates stats")

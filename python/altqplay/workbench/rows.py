@@ -3,10 +3,12 @@
 `fate_rows` and `path_rows` give row after row and need no library. `read_fates` gives columns, a million rows in a second.
 """
 
+import io
 import re
 from collections import namedtuple
 
-from .faults import Refused
+from .faults import Foreign, Refused
+from .foreign import CRLF, QUOTES, RULES, float_of, number_text, plain_head, tidied
 
 FATES_HEAD = ["number", "arrival", "length", "class", "fate", "start", "end"]
 STATS_HEAD = ["class", "arrived", "arrivedbytes", "raised", "sent", "sentbytes", "full", "early", "forced"]
@@ -29,6 +31,9 @@ def place(line):
 
 def whole(name, line, what, word):
     """A whole number below 2^63 of a row."""
+    told = number_text(what, word)
+    if told:
+        raise (Refused if float_of(word) is None else Foreign)(f"{name}: {place(line)}: {told}: {word!r}")
     if not WHOLE.fullmatch(word) or int(word) >= 2**63:
         raise Refused(f"{name}: {place(line)}: {what} is no whole number below 2^63: {word!r}")
     return int(word)
@@ -41,6 +46,8 @@ def fate_of(name, line, row):
     numbers = [whole(name, line, what, word) for what, word in zip(FATES_HEAD[:3], row)]
     if not NAME.fullmatch(row[3]):
         raise Refused(f"{name}: {place(line)}: no name of a class: {row[3]!r}")
+    if row[4] in RULES:
+        raise Foreign(f"{name}: {place(line)}: `{row[4]}` tells no rule")
     if row[4] not in SENT + DROPPED:
         raise Refused(f"{name}: {place(line)}: no fate: {row[4]!r}")
     if row[4] in DROPPED and row[5:] != ["", ""]:
@@ -61,20 +68,33 @@ def path_of(name, line, row):
     return Path(number, arrival, row[2], whole(name, line, "end", row[3]) if row[2] == "sent" else None)
 
 
-def lines(name, head):
-    """The lines of a file behind its head, each as its number and its words."""
-    with open(name, newline="\n", encoding="ascii", errors="replace") as file:
-        if file.readline() != ",".join(head) + "\n":
+def opened(name, is_foreign=False, has_rules=True):
+    """A file of rows as text; with `is_foreign` as `foreign.tidied` makes it."""
+    if not is_foreign:
+        return open(name, newline="\n", encoding="ascii", errors="replace")
+    with open(name, "rb") as file:
+        return io.StringIO(tidied(file.read(), has_rules).decode("ascii", "replace"), newline="\n")
+
+
+def lines(name, head, is_foreign=False, has_rules=True):
+    """The lines of a file behind its head, each as its number and its words. `Foreign` names a line that another program wrote."""
+    with opened(name, is_foreign, has_rules) as file:
+        first = file.readline()
+        if first != ",".join(head) + "\n":
+            if plain_head(first) == ",".join(head) and first.endswith("\n"):
+                raise Foreign(f"{name}: {place(1)}: {CRLF if first.endswith(chr(13) + chr(10)) else 'quotes or blanks stand in the head row'}")
             raise Refused(f"{name}: its first row is not {','.join(head)}")
         for number, line in enumerate(file, 2):
             if not line.endswith("\n"):
                 raise Refused(f"{name}: {place(number)} is cut: no line feed ends it")
+            if "\r" in line or '"' in line:
+                raise Foreign(f"{name}: {place(number)}: {QUOTES if chr(34) in line else CRLF}")
             yield number, line[:-1].split(",")
 
 
-def fate_rows(name):
-    """The fates of a file, in its order. `Refused` names the first row that is none."""
-    for number, words in lines(name, FATES_HEAD):
+def fate_rows(name, is_foreign=False):
+    """The fates of a file, in its order. `Refused` names the first row that is none; with `is_foreign` rows of another program are taken."""
+    for number, words in lines(name, FATES_HEAD, is_foreign):
         yield fate_of(name, number, words)
 
 
@@ -84,11 +104,12 @@ def path_rows(name):
         yield path_of(name, number, words)
 
 
-def read_fates(name):
-    """The fates of a file as `columns.Fates`; it needs numpy. `Refused` names the first row that is none."""
+def read_fates(name, is_foreign=False):
+    """The fates of a file as `columns.Fates`; it needs numpy. `Refused` names the first row that is none; with `is_foreign` rows of
+    another program are taken."""
     from .columns import read
 
-    return read(name)
+    return read(name, is_foreign)
 
 
 def read_stats(name):

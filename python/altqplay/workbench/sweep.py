@@ -15,15 +15,18 @@ dask.distributed in place of this machine's processors; what a worker does not h
 sent to it. The exit status is 0 where all runs are done and keep each want, else 1.
 """
 
+import ctypes
 import hashlib
 import itertools
 import json
 import os
 import re
+import signal
 import sys
 import tempfile
 from collections import namedtuple
 from concurrent.futures import ProcessPoolExecutor, as_completed
+from concurrent.futures.process import BrokenProcessPool
 
 from . import wants
 from .conf import interface_named, read_conf
@@ -35,6 +38,7 @@ from .rows import DROPPED, read_fates, read_stats
 from .texts import Times
 from .written import new_file
 
+DIES_WITH_PARENT = 1  # PR_SET_PDEATHSIG of prctl(2)
 NAME = "sweep"
 HELP = "many configurations, rates, captures and seeds into one table and one plot"
 CURVES = ("rt", "ls", "sc", "ul")
@@ -198,17 +202,30 @@ def finished(name):
     return found
 
 
+def stand_back():
+    """Leaves an interrupt of the terminal to the process that began this one, and ends this one with that."""
+    signal.signal(signal.SIGINT, signal.SIG_IGN)
+    signal.signal(signal.SIGTERM, signal.SIG_DFL)
+    if sys.platform == "linux":
+        ctypes.CDLL(None).prctl(DIES_WITH_PARENT, signal.SIGTERM)
+
+
 def local(runs, jobs):
-    """Plays on this machine's processors; each run with its rows, as it is done."""
-    with ProcessPoolExecutor(jobs) as pool:
+    """Plays on this machine's processors; each run with its rows, as it is done. `Refused` where a process of them is killed."""
+    pool = ProcessPoolExecutor(jobs, initializer=stand_back)
+    try:
         waiting = {pool.submit(played, run): run for run in runs}
         for done in as_completed(waiting):
             yield waiting[done], done.result()
+    except BrokenProcessPool:
+        raise Refused("a process of the sweep was killed; what was played before is kept, and the same command goes on from there") from None
+    finally:
+        pool.shutdown(cancel_futures=True)
 
 
 def remote(runs, scheduler):
     """Plays on the machines of a scheduler; each run with its rows, as it is done."""
-    from altqplay.cluster import Cluster
+    from ..cluster import Cluster
 
     with Cluster(scheduler) as cluster:
         yield from cluster.answers(played_there, runs, sorted({path for run in runs for path in (run.capture, run.program)}))

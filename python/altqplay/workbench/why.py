@@ -20,6 +20,7 @@ from __future__ import annotations
 from argparse import ArgumentParser, Namespace
 
 from .faults import Refused
+from .foreign import add_foreign
 from .journals import row_text
 from .play import add_program
 from .rows import place
@@ -45,6 +46,7 @@ def add_arguments(parser: ArgumentParser) -> None:
     parser.add_argument("--arrivals", metavar="FILE", help="the capture that was played; only ecn and rio need it")
     parser.add_argument("--seed", type=int, default=42, metavar="N", help="the seed of the play, 42 by default")
     add_program(parser)
+    add_foreign(parser, True)
     add_times(parser)
     parser.add_argument("fates", metavar="FATES", help="the fates of a play")
     parser.add_argument("config", metavar="CONFIG", help="its configuration")
@@ -119,7 +121,7 @@ def otherwise_lines(told: Told, name: str) -> list[str]:
 def run(args: Namespace) -> int:
     if args.story and (not args.packet or args.at):
         raise Refused("--story tells of packets: name one by --packet, without --at")
-    status = of_long_play(args) if (args.packet or args.at) and not args.csv and is_long(args.fates) else None
+    status = of_long_play(args) if (args.packet or args.at) and not args.csv and not args.each_rounded and is_long(args.fates) else None
     return of_whole_play(args) if status is None else status
 
 
@@ -140,7 +142,7 @@ def of_whole_play(args: Namespace) -> int:
     """Replays all."""
     asked = question(args)
     test_packets(args, len(asked.packets))
-    replay = Replay(asked)
+    replay = Replay(asked, args.each_rounded)
     told = Told(replay, args)
     if args.csv:
         with new_file(args.csv, "w", newline="", encoding="ascii") as file:

@@ -47,9 +47,9 @@ class Question:
         return Play(self.interface, self.packets, self.seed)
 
 
-def fates_of(name: str) -> list[tuple[int, Fate]]:
+def fates_of(name: str, is_foreign: bool = False) -> list[tuple[int, Fate]]:
     """The rows of a file of fates, each with its number in the file. `sent` and `dropped` stand for any rule, as another program writes them."""
-    found = [(number, entry(name, number, words)) for number, words in lines(name, FATES_HEAD)]
+    found = [(number, entry(name, number, words)) for number, words in lines(name, FATES_HEAD, is_foreign, False)]
     numbers = {fate.number for _row, fate in found}
     if len(numbers) < len(found):
         seen = set()
@@ -112,6 +112,6 @@ def frames_of(args: Namespace, interface: Interface, arrivals: list[tuple[int, i
 def question(args: Namespace) -> Question:
     """The question of some words."""
     interface = read_conf(args.config, args.interface, args.program)
-    rows = fates_of(args.fates)
+    rows = fates_of(args.fates, args.foreign)
     services = frames_of(args, interface, [(fate.arrival, fate.length) for _row, fate in sorted(rows, key=lambda pair: pair[1].number)])
     return Question(args.fates, interface, rows, packets_of(args.fates, rows, interface, services), args.seed)

@@ -5,6 +5,8 @@ from __future__ import annotations
 from collections.abc import Callable
 from dataclasses import dataclass
 
+from .foreign import EACH_ROUNDED
+from .journals import is_each_rounded
 from .rows import Fate
 from .rules.play import Offer, Sending
 from .rules.queues import KEPT, MARKED
@@ -43,10 +45,11 @@ def is_same(ours: Fate, theirs: Fate) -> bool:
 
 
 class Replay:
-    """A play by the rules beside the fates of a question. `otherwise` is the first difference, None as long as there is none."""
+    """A play by the rules beside the fates of a question. `otherwise` is the first difference, None as long as there is none. With
+    `each_rounded` an end may be that of its packet alone, rounded, and the link is free then."""
 
-    def __init__(self, question: Question) -> None:
-        self.question, self.play = question, question.play()
+    def __init__(self, question: Question, each_rounded: bool = False) -> None:
+        self.question, self.play, self.each_rounded = question, question.play(), each_rounded
         self.at, self.dropped = question.first_row, question.dropped
         self.count = 0  # decisions taken
         self.otherwise: Otherwise | None = None
@@ -59,10 +62,25 @@ class Replay:
             self.at += 1
             if not is_same(ours, theirs):
                 self.otherwise = Otherwise(row, theirs, ours)
+                if self.is_rounded_alone(ours, theirs):
+                    self.otherwise.hint = f"{EACH_ROUNDED}; --each-rounded takes it"
         elif decision.packet.number in self.dropped:
             self.otherwise = Otherwise(*self.dropped[decision.packet.number], None)
         if self.otherwise and isinstance(decision, Offer) and decision.verdict.drawn is not None:
             self.otherwise.hint = f"it was decided by a word of seed {self.question.seed}; --seed names another"
+
+    def is_rounded_alone(self, ours: Fate, theirs: Fate) -> bool:
+        """Whether a fate is that of the rules but for its end, which is that of its packet alone, rounded up or down."""
+        is_near = theirs.end is not None and ours.start == theirs.start and is_each_rounded(theirs.start, theirs.end, theirs.length, self.play.link.rate)
+        return is_near and is_same(ours, theirs._replace(end=ours.end))
+
+    def rounded(self, sending: Sending) -> int | None:
+        """Gives a sending the end that its fate has, where that is one of its packet alone and such ends are taken; that end, or None."""
+        ours, theirs = fate_of(sending, self.play.members), self.question.rows[self.at][1]
+        if not self.each_rounded or ours is None or not self.is_rounded_alone(ours, theirs):
+            return None
+        sending.end = theirs.end
+        return sending.end
 
     def decisions(self, look: Look, most: int | None = None) -> None:
         """Takes decision after decision, `most` of them where it is given, up to the first that is otherwise than the fates.
@@ -70,12 +88,14 @@ class Replay:
         play = self.play
         while self.otherwise is None and self.count != most and (decision := play.next()) is not None:
             self.count += 1
-            is_offer = isinstance(decision, Offer)
-            if not is_offer:
+            rounded = None if isinstance(decision, Offer) else self.rounded(decision)
+            if not isinstance(decision, Offer):
                 self.judge(decision)
             behind = look(decision)
             play.take(decision)
-            if is_offer:
+            if rounded is not None:
+                play.link.free_at(rounded)
+            if isinstance(decision, Offer):
                 self.judge(decision)
             if behind is not None:
                 behind(decision)

@@ -9,6 +9,7 @@ from typing import Optional
 
 from .columns import Fates, Fields, file_of
 from .conf import Interface, read_conf
+from .foreign import tidied
 from .rows import FATES_HEAD, Fate
 from .rules.classes import classes_of
 from .rules.frames import is_capable, precedence
@@ -145,8 +146,9 @@ class Windows:
 def windows(args: Namespace) -> Windows:
     """The play that some words name. `Unordered` where the file has no whole play in the order of decisions, whose fault a replay finds."""
     interface = read_conf(args.config, args.interface, args.program)
+    data = file_of(args.fates)
     try:
-        fates = Fates(args.fates, Fields(file_of(args.fates), FATES_HEAD))
+        fates = Fates(args.fates, Fields(tidied(data, False) if args.foreign else data, FATES_HEAD))
     except ValueError:
         raise Unordered from None
     columns = Columns(fates, interface)

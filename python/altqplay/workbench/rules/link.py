@@ -28,6 +28,11 @@ class Link:
             return self.run + time_of(self.length + length, self.rate)
         return start + self.time(length)
 
+    def free_at(self, end: int) -> None:
+        """Has the last run end at a moment, as a link does that rounds packet by packet."""
+        self.free = self.run = end
+        self.length = 0
+
     def send(self, start: int, length: int) -> int:
         """Sends a packet; answers its end."""
         if start != self.free:
