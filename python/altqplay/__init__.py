@@ -16,6 +16,7 @@ from .workbench import __version__
 from .workbench.faults import Missing, Refused
 
 if TYPE_CHECKING:
+    from .bounding import bound, least_curve
     from .checking import Checked, check
     from .comparing import Compared, Found, compare, find
     from .playing import Chain, Play, chain, condition, make, play, shares
@@ -26,6 +27,7 @@ if TYPE_CHECKING:
 
 # The module of each name. It is imported when the name is first asked for: numpy and pandas, which the command line can do without, take half a second.
 _MODULES = {
+    "bounding": ("bound", "least_curve"),
     "checking": ("Checked", "check"),
     "comparing": ("Compared", "Found", "compare", "find"),
     "playing": ("Chain", "Play", "chain", "condition", "make", "play", "shares"),
@@ -36,8 +38,8 @@ _MODULES = {
 }
 _MODULE = {name: module for module, names in _MODULES.items() for name in names}
 
-__all__ = ["Chain", "Checked", "Compared", "Found", "Missing", "Play", "Program", "Refused", "Verified", "__version__", "capture", "chain", "check",
-           "compare", "condition", "fates", "find", "make", "play", "program", "shares", "sweep", "verify"]
+__all__ = ["Chain", "Checked", "Compared", "Found", "Missing", "Play", "Program", "Refused", "Verified", "__version__", "bound", "capture", "chain", "check",
+           "compare", "condition", "fates", "find", "least_curve", "make", "play", "program", "shares", "sweep", "verify"]
 
 
 def __getattr__(name: str) -> Any:
