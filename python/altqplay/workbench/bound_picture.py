@@ -11,6 +11,7 @@ from .rules.units import BYTE, time_of
 
 KILOBIT = 1000
 BLUE, RED, GREY = "#06c", "#c00", "#888"
+HALO = 'stroke="#fff" stroke-width="4" paint-order="stroke"'  # keeps lines off a text
 WIDER, DASHED = ' stroke-width="1.5"', ' stroke-dasharray="8 4"'
 
 
@@ -36,14 +37,15 @@ def horizontal(axes: Axes, begin: int, end: int, height: int, words: str, above:
     """A time between two moments, with a name above or below it."""
     y, x = axes.y(height), (axes.x(begin), axes.x(end))
     ends = [stroke([(at, y - 5), (at, y + 5)], "#333", WIDER) for at in x]
-    return [stroke([(x[0], y), (x[1], y)], "#333", WIDER), *ends, text(f"{(x[0] + x[1]) / 2:.1f}", f"{y + above:.1f}", words)]
+    name = text(f"{(x[0] + x[1]) / 2:.1f}", f"{y + above:.1f}", words).replace("<text", f"<text {HALO}", 1)
+    return [stroke([(x[0], y), (x[1], y)], "#333", WIDER), *ends, name]
 
 
 def legend(lines: Sequence[tuple[str, str, str]]) -> list[str]:
     """What each line is, beside each other above the picture: its colour, its dashes and its words."""
     parts = []
     for place, (colour, more, words) in enumerate(lines):
-        x = LEFT + 90 + 195 * place
+        x = LEFT + 80 + 190 * place
         parts += [stroke([(x, TOP - 8), (x + 28, TOP - 8)], colour, WIDER + more), text(x + 34, TOP - 4, words, "start")]
     return parts
 
@@ -73,5 +75,5 @@ def reasons(name: str, curve: Curve, rate: int, burst: int, longest: tuple[int, 
              for points, colour, more in ((came, GREY, ""), (line, RED, DASHED), (corners, BLUE, ""))]
     known = [(BLUE, "", "what the curve S gives"), (RED, DASHED, f"B + R t, B = {burst}"), (GREY, "", "packets that come")]
     parts = [*axes.lines(), clip, *drawn, "</g>\n", *horizontal(axes, 0, given, burst, "first(S, B)", -9),
-             *horizontal(axes, given, bound, burst, "longest", 20), *legend(known)]
+             *horizontal(axes, given, bound, burst, "longest packet", 20), *legend(known)]
     return framed(f"{name}: at most {bound / MILLISECOND:g} ms", parts)
