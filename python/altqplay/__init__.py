@@ -17,6 +17,7 @@ from .workbench.faults import Missing, Refused
 
 if TYPE_CHECKING:
     from . import exercises, figures, senders
+    from .bounding import bound, least_curve
     from .checking import Checked, check
     from .comparing import Compared, Found, compare, find
     from .playing import Chain, Play, chain, condition, make, play, shares
@@ -27,6 +28,7 @@ if TYPE_CHECKING:
 
 # The module of each name. It is imported when the name is first asked for: numpy and pandas, which the command line can do without, take half a second.
 _MODULES = {
+    "bounding": ("bound", "least_curve"),
     "checking": ("Checked", "check"),
     "comparing": ("Compared", "Found", "compare", "find"),
     "playing": ("Chain", "Play", "chain", "condition", "make", "play", "shares"),
@@ -38,8 +40,9 @@ _MODULES = {
 _MODULE = {name: module for module, names in _MODULES.items() for name in names}
 _PARTS = ("exercises", "figures", "senders")  # modules that are used by their names
 
-__all__ = ["Chain", "Checked", "Compared", "Found", "Missing", "Play", "Program", "Refused", "Verified", "__version__", "capture", "chain", "check",
-           "compare", "condition", "exercises", "fates", "figures", "find", "make", "play", "program", "senders", "shares", "sweep", "verify"]
+__all__ = ["Chain", "Checked", "Compared", "Found", "Missing", "Play", "Program", "Refused", "Verified", "__version__", "bound", "capture", "chain", "check",
+           "compare", "condition", "exercises", "fates", "figures", "find", "least_curve", "make", "play", "program", "senders", "shares", "sweep",
+           "verify"]
 
 
 def __getattr__(name: str) -> Any:

@@ -19,6 +19,7 @@ from .printable import Printed
 
 # Each subcommand's module. One whose module is not here is no subcommand.
 MODULES = {
+    "bound": "bound",
     "convert": "convert",
     "late": "late",
     "report": "report",
