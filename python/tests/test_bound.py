@@ -12,7 +12,7 @@ from conftest import classic, example, udp
 from hypothesis import HealthCheck, given, settings, strategies
 
 from altqplay.workbench import bound, bound_picture, conforming, delay_bound
-from altqplay.workbench.bound_target import Link, Search, curves_of, step_of
+from altqplay.workbench.bound_target import Link, Search, curves_of
 from altqplay.workbench.conf import Curve
 from altqplay.workbench.delay_bound import amount, excess, first
 from altqplay.workbench.rules.units import BYTE, time_of

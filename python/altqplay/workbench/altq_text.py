@@ -6,7 +6,7 @@ The ranges are those of docs/reference/CONFIGURATION.md. Rates are in bits per s
 import ipaddress
 import re
 from dataclasses import dataclass, field
-from typing import List, NamedTuple, Optional
+from typing import List, NamedTuple, NoReturn, Optional
 
 from .faults import Refused
 from .printable import printable
@@ -122,7 +122,7 @@ class Notes:
         if note not in self.general:
             self.general.append(note)
 
-    def refuse(self, word, text):
+    def refuse(self, word: Word, text: str) -> NoReturn:
         """Ends the import at a word."""
         raise Refused(f"{self.name}: line {word.line} word {word.place}: {word.text}: {text}")
 

@@ -67,12 +67,12 @@ def reasons(name: str, curve: Curve, rate: int, burst: int, longest: tuple[int, 
     last = max(bound * 8 // 5, MILLISECOND)
     axes = Axes(last, max(burst + rate * last // BYTE, -(-amount(curve, last) // BYTE)), 1, "bytes")
     end = axes.last
-    line = [(0, burst), (end, burst + rate * end / BYTE)]
-    corners = [(at, amount(curve, at) / BYTE) for at in (0, min(curve.d, end), end)]
+    line: list[Point] = [(0, burst), (end, burst + rate * end / BYTE)]
+    corners: list[Point] = [(at, amount(curve, at) / BYTE) for at in (0, min(curve.d, end), end)]
     came = [(at, total) for at, total in sums(packets) if at <= end]
     clip = f'<clipPath id="inside"><rect x="{LEFT}" y="{TOP}" width="{RIGHT - LEFT}" height="{BOTTOM - TOP}"/></clipPath>\n<g clip-path="url(#inside)">\n'
-    drawn = [stroke([(axes.x(at), axes.y(total)) for at, total in points], colour, WIDER + more)
-             for points, colour, more in ((came, GREY, ""), (line, RED, DASHED), (corners, BLUE, ""))]
+    styles: list[tuple[list[Point], str, str]] = [(came, GREY, ""), (line, RED, DASHED), (corners, BLUE, "")]
+    drawn = [stroke([(axes.x(at), axes.y(total)) for at, total in points], colour, WIDER + more) for points, colour, more in styles]
     known = [(BLUE, "", "what the curve S gives"), (RED, DASHED, f"B + R t, B = {burst}"), (GREY, "", "packets that come")]
     parts = [*axes.lines(), clip, *drawn, "</g>\n", *horizontal(axes, 0, given, burst, "first(S, B)", -9),
              *horizontal(axes, given, bound, burst, "longest packet", 20), *legend(known)]

@@ -105,13 +105,14 @@ def classic_records(source, order, unit):
 
 def section_records(source):
     """The records of a pcapng file, of which the first four bytes were read."""
-    order, interfaces, kind = "<", [], SECTION
+    order, kind = "<", SECTION
+    interfaces: list[Source] = []
     while True:
         size = source.take(4)
         if kind == SECTION:
             magic = source.take(4)
-            order = {b"\x4d\x3c\x2b\x1a": "<", b"\x1a\x2b\x3c\x4d": ">"}.get(magic)
-            if order is None:
+            order = {b"\x4d\x3c\x2b\x1a": "<", b"\x1a\x2b\x3c\x4d": ">"}.get(magic, "")
+            if not order:
                 raise source.fault("follows a section without a byte order")
             interfaces = []
         body = block_body(source, order, size, 4 if kind == SECTION else 0)
@@ -140,7 +141,8 @@ def block_body(source, order, size, taken):
 
 def options_of(source, order, body):
     """The options at the end of a block: the value of each by its code."""
-    found, at = {}, 0
+    found: dict[int, bytes] = {}
+    at = 0
     while at + 4 <= len(body):
         code, size = struct.unpack_from(order + "HH", body, at)
         if code == 0:

@@ -184,11 +184,12 @@ class Chain:
 
     def policer_told(self, longest: int) -> list[str]:
         """What is played in the place of a policer, and what the policer itself would do."""
-        here = self.first.is_sent & ~self.over.is_sent
+        policer, here = self.policer, self.first.is_sent & ~self.over.is_sent
+        assert policer is not None
         both = int((self.policed & here).sum())
-        return [f"the policer is played as a link of {self.policer.rate} bit/s with a queue of {self.policer.limit(longest)} packets, which holds"
-                f" {self.policer.burst} bytes in packets of {longest}",
-                f"a true policer is a bucket of {self.policer.burst} bytes: short packets take less of it, and as much of a queue as long ones do. It drops"
+        return [f"the policer is played as a link of {policer.rate} bit/s with a queue of {policer.limit(longest)} packets, which holds"
+                f" {policer.burst} bytes in packets of {longest}",
+                f"a true policer is a bucket of {policer.burst} bytes: short packets take less of it, and as much of a queue as long ones do. It drops"
                 f" {int(self.policed.sum())} packets (the column bucket), of which the queue drops {both}; the queue drops {int(here.sum()) - both} others",
                 "a policer delays nothing that passes: delays are those behind the first link"]
 

@@ -10,6 +10,7 @@ import contextlib
 import importlib
 import os
 import sys
+from typing import TextIO, cast
 
 from . import __version__
 from .faults import Foreign, Missing, Refused
@@ -89,7 +90,8 @@ def parser_of(words):
 def main(words=None):
     """Runs the words of a command line, those of this process where none are given, and answers the exit status. All that is said is printable text."""
     words = sys.argv[1:] if words is None else words
-    with contextlib.redirect_stdout(Printed(sys.stdout)), contextlib.redirect_stderr(Printed(sys.stderr)):
+    said, complained = (cast(TextIO, Printed(stream)) for stream in (sys.stdout, sys.stderr))
+    with contextlib.redirect_stdout(said), contextlib.redirect_stderr(complained):
         return answered(words)
 
 

@@ -59,7 +59,8 @@ def listed(numbers):
 
 def changed_fates(first, second):
     """The lines on packets that changed fate, and how many did."""
-    changed, moved = {}, [n for n in sorted(first) if first[n].name != second[n].name]
+    changed: dict[tuple[str, str], list[int]] = {}
+    moved = [n for n in sorted(first) if first[n].name != second[n].name]
     for number in sorted(first):
         pair = first[number].fate, second[number].fate
         if pair[0] != pair[1]:
@@ -94,7 +95,7 @@ def is_late(fate, most):
 
 def late(first, second, most):
     """The lines on packets that became late."""
-    counts = [sum(is_late(fate, most) for fate in side.values()) for side in (first, second)]
+    counts = [sum(1 for fate in side.values() if is_late(fate, most)) for side in (first, second)]
     became = [n for n in sorted(first) if is_late(second[n], most) and not is_late(first[n], most)]
     return [f"later than {most} ns: {counts[0]} in the first, {counts[1]} in the second",
             f"  became late: {len(became)}" + (f" ({listed(became)})" if became else "")]
@@ -102,7 +103,7 @@ def late(first, second, most):
 
 def waiting(journal, at):
     """What waits by a journal at a moment, before the choice: by class the numbers of its packets."""
-    found = {}
+    found: dict[str, list[int]] = {}
     for number in sorted(journal):
         fate = journal[number]
         if fate.start is not None and fate.arrival <= at <= fate.start:
@@ -173,8 +174,8 @@ def by_class(first, second, times):
     from .delays import class_rows
     from .numbered import Numbered, classes_of
 
-    sides = [Numbered.of_rows(side.values()) for side in (first, second)]
-    return aligned(class_rows(*sides, classes_of(*sides), times)[0])
+    one, other = (Numbered.of_rows(side.values()) for side in (first, second))
+    return aligned(class_rows(one, other, classes_of(one, other), times)[0])
 
 
 def run(args):

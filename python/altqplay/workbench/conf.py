@@ -1,7 +1,7 @@
 """What a configuration means, from the canonical text that `altqplay check` prints: each class with its curves."""
 
 import re
-from collections import namedtuple
+from typing import NamedTuple, Optional
 
 from .config_kinds import NAMES, kind_of
 from .faults import Refused
@@ -11,10 +11,24 @@ from .rules.meters import rule_of
 CURVES = {"rt": "realtime", "ls": "share", "ul": "limit"}
 MILLISECOND = 10**6
 
-# A service curve: m1 bits per second for d nanoseconds, then m2.
-Curve = namedtuple("Curve", "m1 d m2")
-# One class: its parent's name or None, its curves or None each, and whether it is the default class.
-Class = namedtuple("Class", "name parent realtime share limit is_default")
+
+class Curve(NamedTuple):
+    """A service curve: m1 bits per second for d nanoseconds, then m2."""
+
+    m1: int
+    d: int
+    m2: int
+
+
+class Class(NamedTuple):
+    """One class: its parent's name or None, its curves or None each, and whether it is the default class."""
+
+    name: str
+    parent: Optional[str]
+    realtime: Optional[Curve]
+    share: Optional[Curve]
+    limit: Optional[Curve]
+    is_default: bool
 
 
 class Interface:
@@ -40,7 +54,7 @@ class Interface:
 
 def class_of(words):
     """The class of a canonical line."""
-    curves = {"realtime": None, "share": None, "limit": None}
+    curves: dict[str, Optional[Curve]] = {"realtime": None, "share": None, "limit": None}
     for at, word in enumerate(words[5:], 5):
         if word in CURVES:
             m1, d, m2 = (int(number) for number in words[at + 1:at + 4])

@@ -65,7 +65,9 @@ class Conversion:
 
     def __init__(self, names, overhead, atm, snap):
         self.names, self.overhead, self.atm, self.snap = names, overhead, atm, snap
-        self.links, self.cut, self.pppoe, self.bytes, self.ends = Counter(), 0, 0, 24, []
+        self.links: Counter[int] = Counter()
+        self.cut, self.pppoe, self.bytes = 0, 0, 24
+        self.ends: list[str] = []
 
     def frame(self, name, number, record):
         """The record of Ethernet of a record."""

@@ -28,10 +28,9 @@ def line_moments(slope, bend, sent):
     part = math.gcd(slope, BYTE)
     rise, byte = slope // part, BYTE // part
     shift = -((bend[1] - slope * bend[0]) // part)
-    columns = (sent.arrival, sent.before, sent.total)
+    arrival, before, total = sent.arrival, sent.before, sent.total
     if rise * int(sent.arrival[-1]) + byte * int(sent.total[-1]) + abs(shift) >= MOST:
-        columns = [values.astype(object) for values in columns]
-    arrival, before, total = columns
+        arrival, before, total = (values.astype(object) for values in (arrival, before, total))
     latest = numpy.maximum.accumulate(rise * arrival[sent.opens] - byte * before[sent.opens])
     reached = latest[numpy.cumsum(sent.opens) - 1] + byte * total + shift
     return -(-reached // rise) + sent.origin

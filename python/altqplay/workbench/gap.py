@@ -94,7 +94,8 @@ def events(fates):
 
 def stretches(interface, fates, pair):
     """The longest stretches of a pair, each with a moment and what U1*r2 - U2*r1 is, in bytes times bits per second, after each event."""
-    waiting, value, stretch, found = Counter(), 0, None, []
+    waiting: Counter[str] = Counter()
+    value, stretch, found = 0, None, []
     weights = {pair[0]: rate(interface, pair[1]), pair[1]: -rate(interface, pair[0])}
     for at, is_start, fate in events(fates):
         for name in path(interface, fate.name):
@@ -145,7 +146,8 @@ def line(interface, fates, pair, longest):
 
 def sent_while_both_wait(interface, fates, pair):
     """The bytes of each of a pair that were sent while packets of both waited, with the packet that is sent."""
-    waiting, found = Counter(), [0, 0]
+    waiting: Counter[str] = Counter()
+    found = [0, 0]
     for _at, is_start, fate in events(fates):
         above = list(path(interface, fate.name))
         if is_start and all(waiting[name] for name in pair):

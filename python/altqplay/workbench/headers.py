@@ -81,7 +81,8 @@ def reading_of(frames):
 
 def packed(columns):
     """Some columns side by side in words of 64 bits, each as wide as its greatest value; those that are 0 everywhere are left out."""
-    words, left = [], 0
+    words: list[numpy.ndarray] = []
+    left = 0
     for column in columns:
         values = column.astype(numpy.uint64) + numpy.uint64(column.dtype.kind == "i")  # -1 stands for nothing in some
         wide = int(values.max(initial=0)).bit_length()

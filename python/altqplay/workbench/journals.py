@@ -24,8 +24,8 @@ def entry(name, line, row):
     if not is_sent and row[5:] != ["", ""]:
         raise Refused(f"{name}: {place(line)}: a packet that was dropped has a start or an end")
     numbers = [whole(name, line, what, word) for what, word in zip(FATES_HEAD[:3], row)]
-    times = [whole(name, line, what, word) for what, word in zip(FATES_HEAD[5:], row[5:])] if is_sent else [None, None]
-    return Fate(*numbers, row[3], row[4], *times)
+    start, end = [whole(name, line, what, word) for what, word in zip(FATES_HEAD[5:], row[5:])] if is_sent else (None, None)
+    return Fate(numbers[0], numbers[1], numbers[2], row[3], row[4], start, end)
 
 
 def read_journal(name, is_foreign=False):
@@ -80,7 +80,7 @@ def without_rule(fate):
 
 def order_faults(sent):
     """The sendings that overtake a packet of their class, or start before they arrive."""
-    last = {}
+    last: dict[str, int] = {}
     for fate in sent:
         if fate.start < fate.arrival:
             yield fate, f"starts before it arrives at {fate.arrival}"

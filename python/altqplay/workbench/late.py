@@ -117,7 +117,7 @@ def class_table(sides, times):
         rows.append([name])
         rows += [line(side.label, names, counts(side, side.class_is(name)), times) for side in sides]
         if len(sides) == 2:
-            rows += [["  " + told] for told in changed(*sides, plays.of_either(sides, name))]
+            rows += [["  " + told] for told in changed(sides[0], sides[1], plays.of_either(sides, name))]
     return rows
 
 
@@ -166,7 +166,7 @@ def heading(side, times):
 
 def is_well(sides, verdicts):
     """Whether the last play has no late packet, no packet lost its due moment by the change, and each want is kept."""
-    has_lost = len(sides) == 2 and len(without_due(*sides, plays.every(sides[0])))
+    has_lost = len(sides) == 2 and len(without_due(sides[0], sides[1], plays.every(sides[0])))
     return not (sides[-1].is_late.any() or has_lost) and wants.all_kept(verdicts)
 
 

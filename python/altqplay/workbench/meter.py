@@ -67,7 +67,8 @@ def colours_of(interface, fates):
 def marked_services(interface, arrivals, services, program):
     """The type of service of each packet of a capture once the conditioners have marked it; None where a frame has none."""
     colours = colours_of(interface, unmarked_fates(interface, arrivals, program))
-    return [mark(*colours[number], tos) if number in colours and tos is not None else tos for number, tos in enumerate(services, 1)]
+    found = [(colours.get(number), tos) for number, tos in enumerate(services, 1)]
+    return [tos if coloured is None or tos is None else mark(coloured[0], coloured[1], tos) for coloured, tos in found]
 
 
 def in_bytes(units):

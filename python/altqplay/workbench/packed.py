@@ -10,6 +10,7 @@ import lzma
 import shutil
 import subprocess
 import zlib
+from typing import IO
 
 from .faults import Missing, Refused
 
@@ -27,7 +28,8 @@ class Plain:
     is_packed = is_cut = False
 
     def __init__(self, name):
-        self.name, self.file = name, open(name, "rb")
+        self.name = name
+        self.file: IO[bytes] = open(name, "rb")
 
     def read(self, size=-1):
         """The next bytes, fewer at the end; all of them without a size."""
@@ -84,13 +86,14 @@ class Piped(Plain):
     def __init__(self, name, command):
         self.name, self.is_at_end = name, False
         self.process = subprocess.Popen([command, "-dcq", "--", name], stdin=subprocess.DEVNULL, stdout=subprocess.PIPE, stderr=subprocess.PIPE)
-        self.file = self.process.stdout
+        assert self.process.stdout is not None and self.process.stderr is not None
+        self.file, self.errors = self.process.stdout, self.process.stderr
 
     def read(self, size=-1):
         found = self.file.read(size)
         if not self.is_at_end and (size < 0 or len(found) < size):
             self.is_at_end = True
-            said = self.process.stderr.read().decode("utf-8", "replace").strip()
+            said = self.errors.read().decode("utf-8", "replace").strip()
             if self.process.wait():
                 self.is_cut = "premature end" in said or "truncated" in said
                 if not self.is_cut:
@@ -99,7 +102,7 @@ class Piped(Plain):
 
     def close(self):
         self.file.close()
-        self.process.stderr.close()
+        self.errors.close()
         self.process.wait()
 
 

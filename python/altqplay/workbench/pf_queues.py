@@ -1,5 +1,7 @@
 """Reads the `altq` and `queue` lines of pf.conf(5), as FreeBSD and pfSense have them, into interfaces with classes."""
 
+from __future__ import annotations
+
 import re
 from dataclasses import dataclass, field
 from fractions import Fraction
@@ -58,7 +60,7 @@ def number(cursor, what):
     return int(word.text)
 
 
-def bandwidth(cursor):
+def bandwidth(cursor: Cursor) -> Bandwidth:
     """The bandwidth that is next."""
     word = cursor.take("a bandwidth")
     match = BANDWIDTH.match(word.text)

@@ -2,7 +2,7 @@
 
 import re
 
-from .altq_text import Word
+from .altq_text import Notes, Word
 
 TOKEN = re.compile(r'"[^"]*"|<[A-Za-z_][\w.:-]*>|><|<>|!=|>=|<=|[{}(),=!<>]|[^\s{}(),"=!<>]+')
 MACRO = re.compile(r"\$(\w+)(.*)\Z")
@@ -83,7 +83,8 @@ class Cursor:
     """Goes through the words of a statement."""
 
     def __init__(self, words, notes):
-        self.words, self.at, self.notes = words, 0, notes
+        self.words, self.at = words, 0
+        self.notes: Notes = notes
 
     def has(self, *texts):
         """Whether the next word is there, and is one of some texts where any are given."""

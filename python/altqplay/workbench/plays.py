@@ -163,7 +163,8 @@ class Question:
 
     def all_inputs(self):
         """What is played of each configuration. The captures are converted once."""
-        args, found = self.args, []
+        args = self.args
+        found: list[operator_inputs.Prepared] = []
         for label, config in self.configs:
             folder = os.path.join(self.folder, label)
             lengths = {} if found else {"overhead": args.overhead, "atm": args.atm, "snap": args.snap}

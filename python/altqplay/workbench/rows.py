@@ -52,8 +52,8 @@ def fate_of(name, line, row):
         raise Refused(f"{name}: {place(line)}: no fate: {row[4]!r}")
     if row[4] in DROPPED and row[5:] != ["", ""]:
         raise Refused(f"{name}: {place(line)}: a packet that was dropped has a start or an end")
-    times = [whole(name, line, what, word) for what, word in zip(FATES_HEAD[5:], row[5:])] if row[4] in SENT else [None, None]
-    return Fate(*numbers, row[3], row[4], *times)
+    start, end = [whole(name, line, what, word) for what, word in zip(FATES_HEAD[5:], row[5:])] if row[4] in SENT else (None, None)
+    return Fate(numbers[0], numbers[1], numbers[2], row[3], row[4], start, end)
 
 
 def path_of(name, line, row):

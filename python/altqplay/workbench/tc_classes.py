@@ -1,10 +1,13 @@
 """Turns qdiscs and classes of HFSC, as tc(8) takes or shows them, into interfaces with classes."""
 
+from __future__ import annotations
+
 import re
 from dataclasses import dataclass, field
-from typing import Dict, List, Optional
+from fractions import Fraction
+from typing import Dict, List, Optional, Sequence
 
-from .altq_text import Class, Curve, Interface, Word
+from .altq_text import Class, Curve, Interface, Notes, Word
 from .tc_words import RATES, SIZES, TIMES, is_change, quantity, whole
 
 CURVES = ("rt", "ls", "ul", "sc")
@@ -37,7 +40,7 @@ class Device:
     filters: List[List[Word]] = field(default_factory=list)
 
 
-def handle(word, notes):
+def handle(word: Word, notes: Notes) -> str:
     """A handle as `major:minor` in base 16; that of a qdisc ends with its colon."""
     match = HANDLE.match(word.text)
     if match is None:
@@ -46,7 +49,7 @@ def handle(word, notes):
     return f"{int(match[1], 16):x}:{minor:x}" if minor else f"{int(match[1], 16):x}:"
 
 
-def behind(words, *names):
+def behind(words: Sequence[Word], *names: str) -> Optional[Word]:
     """The word behind the first of some words, or None."""
     for at, word in enumerate(words[:-1]):
         if word.text in names:
@@ -57,11 +60,12 @@ def behind(words, *names):
 class Reader:
     """Reads the commands one after the other; what tc shows without a device belongs to the one before, or to that of --interface."""
 
-    def __init__(self, interface, notes):
-        self.devices, self.notes = {}, notes
+    def __init__(self, interface: Optional[str], notes: Notes) -> None:
+        self.notes = notes
+        self.devices: Dict[str, Device] = {}
         self.last = Word(interface, 1, 1) if interface else None
 
-    def device(self, words):
+    def device(self, words: Sequence[Word]) -> Device:
         """The device of a command."""
         name = behind(words, "dev") or self.last
         if name is None:
@@ -126,7 +130,8 @@ class Reader:
 
     def curves(self, words):
         """What stands behind each of rt, ls, ul and sc, with the word itself; sc is rt and ls."""
-        found, name = {}, None
+        found: Dict[str, tuple] = {}
+        name = None
         for at, word in enumerate(words):
             if word.text in CURVES:
                 name = word
@@ -175,7 +180,8 @@ class Maker:
     """Makes an interface of a device."""
 
     def __init__(self, device, given, notes):
-        self.device, self.given, self.notes = device, given, notes
+        self.device, self.given = device, given
+        self.notes: Notes = notes
         self.inner = {handle(one.parent, notes) for one in device.classes.values()}
 
     def rate(self, word):
@@ -197,7 +203,7 @@ class Maker:
             m1 = self.rate(values["m1"]) if "m1" in values else 0
             return m1, quantity(bend, TIMES, "time", self.notes) if bend else 0, m2, bend or name
         dmax = quantity(values["dmax"], TIMES, "time", self.notes)
-        bits = 8 * quantity(values["umax"], SIZES, "size", self.notes) if "umax" in values else 0
+        bits: Fraction | int = 8 * quantity(values["umax"], SIZES, "size", self.notes) if "umax" in values else 0
         if dmax and bits * SECOND > m2 * dmax:
             return -(-bits * SECOND // dmax), dmax, m2, values["dmax"]
         return 0, max(dmax - bits * SECOND / m2, 0) if m2 else dmax, m2, values["dmax"]
@@ -258,7 +264,8 @@ class Maker:
 
     def classes(self):
         """The classes, each behind its parent, else in the order of the file."""
-        found, left = {}, dict(self.device.classes)
+        found: Dict[str, TcClass] = {}
+        left = dict(self.device.classes)
         while left:
             ready = [name for name, tc in left.items() if handle(tc.parent, self.notes) in set(found) | {self.device.root}]
             if not ready:

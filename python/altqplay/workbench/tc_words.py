@@ -1,9 +1,12 @@
 """Reads lines of tc, commands or what tc shows, into commands of words, and the units of tc(8)."""
 
+from __future__ import annotations
+
 import re
 from fractions import Fraction
+from typing import Iterable, Iterator, Mapping
 
-from .altq_text import Word
+from .altq_text import Notes, Word
 
 TOKEN = re.compile(r'(?:"[^"]*"|\'[^\']*\'|[^\s"\';|&])+|;|\|\|?|&&?')
 VARIABLE = re.compile(r"\$(?:\{(\w+)\}|(\w+|[@*#?]|\())")
@@ -23,7 +26,7 @@ OBJECTS = ("qdisc", "class", "filter")
 COUNTS = ("Sent", "backlog", "period", "rate")
 
 
-def quantity(word, units, what, notes):
+def quantity(word: Word, units: Mapping[str, int | Fraction], what: str, notes: Notes) -> Fraction:
     """A number with a unit, in the units' common one."""
     match = NUMBER.match(word.text)
     if match is None or match[2].lower() not in units:
@@ -110,9 +113,10 @@ class Script:
         return words
 
 
-def commands(text, notes):
+def commands(text: str, notes: Notes) -> list[list[Word]]:
     """The commands on qdiscs, classes and filters. What tc shows of one filter on several lines is joined."""
-    script, found, goes_on = Script(notes), [], False
+    script, goes_on = Script(notes), False
+    found: list[list[Word]] = []
     for number, line in logical_lines(text):
         pieces = [Word(match[0], number, place) for place, match in enumerate(TOKEN.finditer(line), 1)]
         if goes_on and line[:1].isspace() and pieces and pieces[0].text not in OBJECTS + ("tc",):
@@ -149,9 +153,9 @@ def without_counts(words):
     return found
 
 
-def split(pieces):
+def split(pieces: Iterable[Word]) -> Iterator[list[Word]]:
     """The commands of a line, which `;`, `&&`, `||` and `|` part."""
-    command = []
+    command: list[Word] = []
     for word in pieces:
         if word.text in (";", "&&", "||", "|", "&"):
             if command:

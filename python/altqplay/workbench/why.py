@@ -57,13 +57,24 @@ def moment_of(decision: Offer | Sending) -> int:
     return decision.packet.arrival if isinstance(decision, Offer) else decision.choice.start
 
 
+def all_of(behind: list[Behind]) -> Behind | None:
+    """What calls each of some, or None of none."""
+    def call(taken: Offer | Sending) -> None:
+        for one in behind:
+            one(taken)
+
+    return call if behind else None
+
+
 class Told:
     """What is told of a replay: the pictures of the decisions that are asked for."""
 
     def __init__(self, replay: Replay, args: Namespace) -> None:
         self.replay, self.play, self.packets = replay, replay.play, set(args.packet)
         self.moments = sorted(set(args.at), reverse=True)  # those that are not passed yet, the next one last
-        self.lines, self.last, self.has_picture = [], None, False
+        self.lines: list[str] = []
+        self.last: Offer | Sending | None = None
+        self.has_picture = False
         origin, members = replay.question.origin, replay.play.members
         self.stories = [Story(number, Times(args.ns), origin, lambda place: members[place].name, self.sent_last) for number in sorted(self.packets)] if args.story else []
 
@@ -97,7 +108,7 @@ class Told:
     def follow(self, decision: Offer | Sending) -> Behind | None:
         """Has each story look at a decision."""
         behind = [found for found in [story.look(self.play, decision) for story in self.stories] if found]
-        return (lambda taken: [found(taken) for found in behind]) if behind else None
+        return all_of(behind)
 
     def told(self) -> list[str]:
         """All lines."""
@@ -107,6 +118,7 @@ class Told:
 def otherwise_lines(told: Told, name: str) -> list[str]:
     """The lines on the first difference."""
     found = told.replay.otherwise
+    assert found is not None and told.last is not None
     lines = [f"{name}: {place(found.row)}: {row_text(found.fate)}"]
     packet = told.last.packet
     if found.ours is not None:
@@ -159,7 +171,8 @@ def of_long_play(args: Namespace) -> int | None:
         from .why_window import Unordered, windows
     except ModuleNotFoundError:
         return None
-    count, lines = 0, []
+    count = 0
+    lines: list[str] = []
     try:
         asked = windows(args)
     except Unordered:
@@ -183,7 +196,7 @@ def follow(replay: Replay, told: Told, rows: Rows | None, most: int | None = Non
 
     def look(decision: Offer | Sending) -> Behind | None:
         behind = [found for found in [one(decision) for one in looks] if found]
-        return (lambda taken: [found(taken) for found in behind]) if behind else None
+        return all_of(behind)
 
     replay.decisions(look if rows else told.look, most)
     if replay.otherwise is None:

@@ -22,7 +22,9 @@ def number(value: int | None) -> int | str:
 def narrowest(contests: list[Contest]) -> Contest | None:
     """Of the contests of a choice, level by level, the one in which the second came nearest; the last of them where nobody was second."""
     near = [one for one in contests if one.by is not None]
-    return min(near, key=lambda one: one.by) if near else next((one for one in reversed(contests) if one.second), contests[-1] if contests else None)
+    if near:
+        return min(near, key=lambda one: one.by or 0)
+    return next((one for one in reversed(contests) if one.second), None) or (contests[-1] if contests else None)
 
 
 def sending_row(play: Play, sending: Sending) -> list:
@@ -40,7 +42,7 @@ def sending_row(play: Play, sending: Sending) -> list:
 
 def offer_row(offer: Offer) -> list:
     """The words of an offer that was taken, behind its number."""
-    verdict, packet = offer.verdict, offer.packet
+    verdict, packet = offer.answer, offer.packet
     row = [packet.arrival, packet.number, offer.of.name, verdict.word, verdict.waiting] + [""] * 11
     if not verdict.moves:
         return row + [""] * 8
@@ -62,6 +64,7 @@ class Rows:
         self.rows.writerow([self.count, *sending_row(self.play, decision)])
         return None
 
-    def offered(self, offer: Offer) -> None:
+    def offered(self, offer: Offer | Sending) -> None:
         """Writes the row of an offer that was taken."""
+        assert isinstance(offer, Offer)
         self.rows.writerow([self.count, *offer_row(offer)])

@@ -52,9 +52,11 @@ def fates_of(name: str, is_foreign: bool = False) -> list[tuple[int, Fate]]:
     found = [(number, entry(name, number, words)) for number, words in lines(name, FATES_HEAD, is_foreign, False)]
     numbers = {fate.number for _row, fate in found}
     if len(numbers) < len(found):
-        seen = set()
-        again = next(fate.number for _row, fate in found if fate.number in seen or seen.add(fate.number))
-        raise Refused(f"{name}: packet {again} has two fates")
+        seen: set[int] = set()
+        for _row, fate in found:
+            if fate.number in seen:
+                raise Refused(f"{name}: packet {fate.number} has two fates")
+            seen.add(fate.number)
     missing = next((number for number in range(1, len(found) + 1) if number not in numbers), None)
     if missing is not None:
         raise Refused(f"{name}: packet {missing} has no fate: a play that was cut off cannot be replayed")
@@ -70,7 +72,8 @@ def places_of(interface: Interface) -> dict[str, int]:
 
 def packets_of(name: str, rows: list[tuple[int, Fate]], interface: Interface, services: list[int | None] | None) -> list[Packet]:
     """The packets of some fates, in the order of the capture; `services` is None, or the type of service of each."""
-    places, found = places_of(interface), []
+    places = places_of(interface)
+    found: list[Packet] = []
     for row, fate in sorted(rows, key=lambda pair: pair[1].number):
         if fate.name not in places:
             raise Refused(f"{name}: {place(row)}: {fate.name} is no class of {interface.name} that holds packets")

@@ -4,7 +4,7 @@ from __future__ import annotations
 
 from .rules.packets import Packet
 from .rules.play import Offer, Play, Sending
-from .rules.queues import KEPT, MARKED
+from .rules.queues import KEPT, MARKED, Red
 from .why_tables import queue_table, table_of
 from .why_words import VERBS, of_opening, of_sending, of_verdict
 
@@ -28,9 +28,9 @@ class OfferPicture:
 
 def offer_lines(play: Play, offer: Offer, opening: list[str]) -> list[str]:
     """An offer that was taken, with the lines on what it opened."""
-    verdict, packet, queue = offer.verdict, offer.packet, play.queues[offer.packet.place]
+    verdict, packet, queue = offer.answer, offer.packet, play.queues[offer.packet.place]
     lines = [f"{packet.arrival}: {packet_text(packet, offer.of.name)}, {VERBS[verdict.word]}: {verdict.waiting} of at most {verdict.limit} wait"]
-    if verdict.moves:
+    if verdict.moves and isinstance(queue, Red):
         lines += queue_table(queue, verdict)
     lines += [f"  {line}" for line in of_verdict(offer, play.words.drawn)]
     return lines + ([f"  {line}" for line in opening] if verdict.word in (KEPT, MARKED) else [])

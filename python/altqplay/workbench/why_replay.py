@@ -2,8 +2,9 @@
 
 from __future__ import annotations
 
-from collections.abc import Callable
+from collections.abc import Callable, Sequence
 from dataclasses import dataclass
+from typing import TYPE_CHECKING, Any
 
 from .foreign import EACH_ROUNDED
 from .journals import is_each_rounded
@@ -12,6 +13,9 @@ from .rules.play import Offer, Sending
 from .rules.queues import KEPT, MARKED
 from .rules.tree import Member
 from .why_inputs import Question
+
+if TYPE_CHECKING:
+    from .why_window import Window
 
 # What looks at a decision before it is taken, and what it answers: what is to be called behind it, or None.
 Behind = Callable[["Offer | Sending"], None]
@@ -29,13 +33,13 @@ class Otherwise:
     hint: str = ""
 
 
-def fate_of(decision: Offer | Sending, members: list[Member]) -> Fate | None:
+def fate_of(decision: Offer | Sending, members: Sequence[Member[Any]]) -> Fate | None:
     """The fate that a decision makes, or None where it keeps a packet."""
     packet = decision.packet
     shared = packet.number, packet.arrival, packet.length, members[packet.place].name
     if not isinstance(decision, Offer):
         return Fate(*shared, decision.choice.rule, decision.choice.start, decision.end)
-    return None if decision.verdict.word in (KEPT, MARKED) else Fate(*shared, decision.verdict.word, None, None)
+    return None if decision.answer.word in (KEPT, MARKED) else Fate(*shared, decision.answer.word, None, None)
 
 
 def is_same(ours: Fate, theirs: Fate) -> bool:
@@ -48,7 +52,7 @@ class Replay:
     """A play by the rules beside the fates of a question. `otherwise` is the first difference, None as long as there is none. With
     `each_rounded` an end may be that of its packet alone, rounded, and the link is free then."""
 
-    def __init__(self, question: Question, each_rounded: bool = False) -> None:
+    def __init__(self, question: Question | Window, each_rounded: bool = False) -> None:
         self.question, self.play, self.each_rounded = question, question.play(), each_rounded
         self.at, self.dropped = question.first_row, question.dropped
         self.count = 0  # decisions taken
@@ -66,7 +70,7 @@ class Replay:
                     self.otherwise.hint = f"{EACH_ROUNDED}; --each-rounded takes it"
         elif decision.packet.number in self.dropped:
             self.otherwise = Otherwise(*self.dropped[decision.packet.number], None)
-        if self.otherwise and isinstance(decision, Offer) and decision.verdict.drawn is not None:
+        if self.otherwise and isinstance(decision, Offer) and decision.answer.drawn is not None:
             self.otherwise.hint = f"it was decided by a word of seed {self.question.seed}; --seed names another"
 
     def is_rounded_alone(self, ours: Fate, theirs: Fate) -> bool:

@@ -13,7 +13,7 @@ from dataclasses import dataclass
 import numpy
 
 from .rules.cbq import Cbq, Node as CbqNode, moved
-from .rules.classes import classes_of
+from .rules.classes import CbqClass, classes_of
 from .rules.curves import Openings
 from .rules.hfsc import Hfsc
 from .rules.packets import Packet
@@ -79,7 +79,7 @@ def set_hfsc(discipline: Hfsc, history: History) -> None:
             node.renew_head()
         if node.limiter is not None and len(moments):
             set_openings(node.limiter, moments, found.sums[found.wakes])
-            node.within = node.limiter.reaches(node.total)
+            node.renew_within()
     for node in discipline.members:
         if node.children:
             Family(node, below).set()
@@ -101,7 +101,8 @@ def waiting_of(history: History) -> list[Waiting]:
     """The priorities of which something waits."""
     priorities: dict[int, list[int]] = {}
     for place, given in enumerate(classes_of(history.columns.interface)):
-        priorities.setdefault(given.priority, []).append(place)
+        if isinstance(given, CbqClass):
+            priorities.setdefault(given.priority, []).append(place)
     told = []
     for places in priorities.values():
         found = history.of(places)
@@ -173,7 +174,9 @@ def set_queues(play: Play, history: History, services: tuple[list[int], list[boo
             tested += found.tested()
             rest += [(queue, kind) for kind in found.fresh]
     for _packet, place, kind, average, waiting, is_fresh in sorted(tested):
-        decide(play, play.queues[place], kind, average, waiting, is_fresh)
+        asked = play.queues[place]
+        assert isinstance(asked, Red)
+        decide(play, asked, kind, average, waiting, is_fresh)
     for queue, kind in rest:
         queue.counts[kind] = -1
 
@@ -241,7 +244,7 @@ class Averages:
             is_tested = (average[own] >= self.queue.thresholds[kind][0]) | (waiting[own] >= self.queue.limit)
             is_fresh = numpy.concatenate([[True], ~is_tested[:-1]]) if len(own) else is_tested
             rows = own[is_tested]
-            found += list(zip(self.packets[rows].tolist(), [self.place] * len(rows), [kind] * len(rows), average[rows].tolist(),
-                              waiting[rows].tolist(), is_fresh[is_tested].tolist()))
+            columns = (self.packets[rows], average[rows], waiting[rows], is_fresh[is_tested])
+            found += [(packet, self.place, kind, one, waits, fresh) for packet, one, waits, fresh in zip(*(column.tolist() for column in columns))]
             self.fresh += [kind] if len(own) and not is_tested[-1] else []
         return found

@@ -4,14 +4,13 @@ from __future__ import annotations
 
 from collections.abc import Callable
 from dataclasses import dataclass, field
-from typing import Optional
+from typing import Any, Optional
 
 from .rules.cbq import Cbq
 from .rules.hfsc import NEVER, Hfsc, Node
 from .rules.packets import Packet
 from .rules.play import Offer, Play, Sending
 from .rules.queues import KEPT, MARKED
-from .rules.tree import Member
 from .texts import Times
 from .why_words import VERBS, of_verdict
 
@@ -46,6 +45,11 @@ class Story:
     carried: dict[str, int] = field(default_factory=dict)  # nanoseconds of the wait that the link carried packets of a class
     ending: list[str] = field(default_factory=list)
 
+    def own(self) -> Packet:
+        """The packet, once it came."""
+        assert self.packet is not None
+        return self.packet
+
     def moment(self, at: int) -> str:
         """A moment of the capture."""
         return self.times.number(at - self.origin)
@@ -64,21 +68,21 @@ class Story:
     def came(self, play: Play, offer: Offer) -> Callable[[Offer | Sending], None]:
         """The packet comes: what stands before it is told, and behind the offer whether it is kept."""
         packet, link = offer.packet, play.link
-        is_busy = link.free is not None and link.free > packet.arrival
-        if is_busy:
+        before = "the link is free"
+        if link.free is not None and link.free > packet.arrival:
             self.carry(self.on_link(), link.free - packet.arrival)
-        before = f"the link carries a packet of {self.on_link()} until {self.moment(link.free)}" if is_busy else "the link is free"
+            before = f"the link carries a packet of {self.on_link()} until {self.moment(link.free)}"
         waits = ", ".join(f"{len(node.waiting)} of {node.name}" for node in play.members if node.waiting)
         text = f"{before}; {waits + (' wait' if waits else '') or 'nothing waits'}"
 
         def behind(_offer: Offer | Sending) -> None:
             self.head = [f"packet {packet.number} of {offer.of.name}, {packet.length} bytes; moments are {self.times.unit} after the first arrival",
                          self.line(packet.arrival, f"it comes: {text}")]
-            if offer.verdict.word in (KEPT, MARKED):
+            if offer.answer.word in (KEPT, MARKED):
                 self.packet = packet
             else:
                 told = "; ".join(of_verdict(offer, play.words.drawn))
-                self.ending = [self.line(packet.arrival, f"it {VERBS[offer.verdict.word]}: {told}")]
+                self.ending = [self.line(packet.arrival, f"it {VERBS[offer.answer.word]}: {told}")]
 
         return behind
 
@@ -92,13 +96,13 @@ class Story:
 
     def idle(self, play: Play, sending: Sending) -> None:
         """Adds the time that the link waited before a sending."""
-        since = max(play.now, self.packet.arrival)
+        since = max(play.now, self.own().arrival)
         if sending.choice.start > since:
             self.carry("a link that may not send", sending.choice.start - since)
 
     def turn(self, play: Play, sending: Sending) -> None:
         """Another packet goes first."""
-        node, own = sending.choice.of, play.members[self.packet.place]
+        node, own = sending.choice.of, play.members[self.own().place]
         self.idle(play, sending)
         self.carry(node.name, sending.end - sending.choice.start)
         last = self.turns[-1] if self.turns else None
@@ -111,14 +115,14 @@ class Story:
 
     def end(self, play: Play, sending: Sending) -> None:
         """The packet itself goes."""
-        packet, start, end = self.packet, sending.choice.start, sending.end
+        packet, start, end = self.own(), sending.choice.start, sending.end
         self.idle(play, sending)
         self.ending = [self.line(start, f"it goes by {SPOKEN[sending.choice.rule]}"), self.line(end, "its last bit has left"),
                        f"it took {self.times.text(end - packet.arrival)}, of which it waited {self.times.text(start - packet.arrival)}" + self.shares(start - packet.arrival)]
 
     def shares(self, wait: int) -> str:
         """What the wait went to."""
-        own = self.names(self.packet.place)
+        own = self.names(self.own().place)
         ranked = sorted(((time, of) for of, time in self.carried.items() if time), key=lambda pair: -pair[0])
         told = [f"{(200 * time + wait) // (2 * wait) or '<1'} % {'its own class' if of == own else of}" for time, of in ranked]
         return ": " + ", ".join(told) if told else ""
@@ -127,7 +131,7 @@ class Story:
         """A turn as a line."""
         count = len(turn.packets)
         what = f"packet {turn.packets[0]}" if count == 1 else f"{count} packets, {turn.packets[0]} to {turn.packets[-1]},"
-        why = turn.reason if turn.of == self.names(self.packet.place) else f"by {SPOKEN[turn.rule]}: {turn.reason}"
+        why = turn.reason if turn.of == self.names(self.own().place) else f"by {SPOKEN[turn.rule]}: {turn.reason}"
         return self.line(turn.start, f"{what} of {turn.of}, {turn.size} bytes, {why}")
 
     def lines(self) -> list[str]:
@@ -141,7 +145,7 @@ class Story:
 class Reason:
     """Why a packet goes before one of another class."""
 
-    def __init__(self, story: Story, play: Play, sending: Sending, own: Member) -> None:
+    def __init__(self, story: Story, play: Play, sending: Sending, own: Any) -> None:
         self.story, self.play, self.choice, self.own = story, play, sending.choice, own
 
     def text(self) -> str:

@@ -3,6 +3,7 @@
 from __future__ import annotations
 
 from .rules.cbq import Cbq
+from .rules.cbq import Node as CbqNode
 from .rules.hfsc import NEVER, Hfsc, Node
 from .rules.play import Play, Sending
 from .rules.queues import GAIN, Red, Verdict
@@ -68,12 +69,12 @@ class CbqTable:
         self.path = list(sending.choice.of.path()) if sending else []
         self.rows = [self.row(node) for node in discipline.members]
 
-    def row(self, node: Member) -> list:
+    def row(self, node: CbqNode) -> list:
         """The numbers of a class before the decision."""
         waits, has_average = bool(node.waiting), node.parent is not None
         own = self.discipline.own_moment(node, self.moment) if waits else None
         loan = self.discipline.loan(node, self.moment) if waits else None
-        idle = node.idle(self.sending.packet.length, self.sending.end) if node in self.path and has_average else None
+        idle = node.idle(self.sending.packet.length, self.sending.end) if self.sending and node in self.path and has_average else None
         return [name_of(node), node.backlog(), node.given.priority, node.average if has_average else None, idle, own, loan and loan[0],
                 node.quantum, node.credit, node.rounds() if waits else None]
 

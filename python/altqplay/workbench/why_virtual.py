@@ -29,8 +29,9 @@ class Family:
 
     def __init__(self, parent: Node, below: dict[int, Below]) -> None:
         self.parent, self.nodes = parent, parent.children
-        self.below, self.curves = [below[node.place] for node in self.nodes], [node.sharing for node in self.nodes]
-        if any(curve is None or curve.m2 == 0 for curve in self.curves):
+        self.below = [below[node.place] for node in self.nodes]
+        self.curves = [node.sharing for node in self.nodes if node.sharing is not None and node.sharing.m2]
+        if len(self.curves) < len(self.nodes):
             raise Unordered  # no such class is read
         self.bends = [(curve.m1 - curve.m2) * curve.d if curve.m1 > curve.m2 else 0 for curve in self.curves]
         self.slopes = numpy.array([curve.m1 if bend else curve.m2 for curve, bend in zip(self.curves, self.bends)], dtype=numpy.int64)
@@ -100,7 +101,7 @@ class Family:
         moved = self.gained(sibling, total - self.sent[self.rows[begins]][stay])
         order = numpy.argsort(wake, kind="stable")
         bounds = numpy.searchsorted(wake[order], numpy.arange(int(before[-1]) + 1))
-        return bounds[before].tolist(), *(values[order].tolist() for values in (sibling, moved, total))
+        return bounds[before].tolist(), sibling[order].tolist(), moved[order].tolist(), total[order].tolist()
 
     def behind(self, pair: numpy.ndarray) -> tuple[numpy.ndarray, numpy.ndarray]:
         """The high mark behind some pairs, as a place of `highs` and how much above."""
@@ -174,7 +175,7 @@ class Family:
                 moved = self.gained(numpy.array([one]), numpy.array([found.total - self.base[one] + 1]))
                 virtual = self.later(one, self.opened[one] + int(moved[0]), found.total) if found.total >= self.base[one] else self.opened[one]
             if self.base[one]:
-                sharing, units, at = node.sharing, BYTE * (self.base[one] - 1), self.opened[one]
+                sharing, units, at = self.curves[one], BYTE * (self.base[one] - 1), self.opened[one]
                 sharing.first = sharing.last = at, units
                 sharing.steep, sharing.flat = sharing.m1 * at - units, self.flat[one] if self.bends[one] else sharing.m2 * at - units
                 node.virtual = virtual

@@ -60,7 +60,9 @@ def of_cbq(discipline: Cbq, choice: Choice) -> list[str]:
     """The lines on a sending of CBQ."""
     node, start = choice.of, choice.start
     if choice.rule == "borrow":
-        lender = discipline.loan(node, start)[1]
+        loan = discipline.loan(node, start)
+        assert loan is not None
+        lender = loan[1]
         lines = [f"borrow: {node.name} itself may not before {discipline.own_moment(node, start)}; {lender.name} lends"]
         lines.append(allows(discipline, lender, node.waiting[0].length, start))
     else:
@@ -93,10 +95,11 @@ def of_sending(play: Play, sending: Sending) -> list[str]:
 
 def of_wake(wake: Wake) -> str:
     """The line on the virtual time that a class takes."""
-    if wake.least is not None:
+    if wake.least is not None and wake.greatest is not None:
         middle = (wake.least + wake.greatest) // 2
         what = f"the middle of {wake.least} and {wake.greatest}"
     else:
+        assert wake.node.parent is not None
         middle, what = wake.high, f"the high mark of {wake.node.parent.name}"
     if wake.own > middle:
         return f"{wake.node.name} becomes active at its own virtual time {wake.own}, which is later than {middle}, {what}"
@@ -116,6 +119,7 @@ def of_opening(play: Play, offer: Offer) -> list[str]:
 def of_thresholds(verdict: Verdict) -> str:
     """The line on where the average stands."""
     average, lower, upper = verdict.average, verdict.lower, verdict.upper
+    assert average is not None
     if verdict.word == FORCED:
         return f"the average {average} is not below the upper threshold {upper}: it is {average - upper} above it"
     if average < lower:
@@ -126,7 +130,7 @@ def of_thresholds(verdict: Verdict) -> str:
 def of_spacing(verdict: Verdict, drawn: int) -> list[str]:
     """The lines on the spacing of early drops, and on the word."""
     lines = [f"d = 10 * {verdict.upper - verdict.lower} - {verdict.risen} * {verdict.over} = {verdict.spacing}"]
-    if verdict.drawn is None:
+    if verdict.drawn is None or verdict.spacing is None or verdict.over is None:
         return lines + ["d is not above 0: early without a word"]
     left, right = verdict.drawn * verdict.spacing, 2**32 * verdict.over
     what = f"less by {right - left}: early" if left < right else f"not less, by {left - right}: kept"
@@ -135,7 +139,7 @@ def of_spacing(verdict: Verdict, drawn: int) -> list[str]:
 
 def of_verdict(offer: Offer, drawn: int) -> list[str]:
     """The lines on a queue's verdict; `drawn` is how many words were drawn by then."""
-    verdict = offer.verdict
+    verdict = offer.answer
     if verdict.word == FULL:
         lines = [f"as many packets wait as the limit says, {verdict.limit}"]
     elif not verdict.moves:

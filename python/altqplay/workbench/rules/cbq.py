@@ -6,6 +6,7 @@ A `Node` is a class with what its history makes of it.
 from __future__ import annotations
 
 from collections.abc import Iterator, Sequence
+from typing import Any
 
 from .choices import Choice, Contest, contest
 from .classes import CbqClass
@@ -30,7 +31,7 @@ def moved(average: int, idle: int, cap: int) -> int:
     return min(cap, average - (part if average > 0 else -part) + idle)
 
 
-class Node(Member):
+class Node(Member["Node"]):
     """A class: what waits in it, its average, the last end of it or below it, None before one, and its credit."""
 
     def __init__(self, place: int, given: CbqClass, rate: int) -> None:
@@ -55,6 +56,7 @@ class Node(Member):
     def wanted(self, length: int) -> int:
         """Where its average is 0 or less, the least end of a packet that it allows. Told once for a length until its average moves."""
         if length not in self.ends:
+            assert self.ended is not None
             self.ends[length] = self.ended + time_of(length, self.given.rate) + needed(self.average)
         return self.ends[length]
 
@@ -72,8 +74,9 @@ class Node(Member):
 
     def take(self, length: int, end: int) -> None:
         """Takes that a packet of it or of a class below it ends."""
-        if self.ended is not None:
-            self.average = moved(self.average, self.idle(length, end), self.cap)
+        idle = self.idle(length, end)
+        if idle is not None:
+            self.average = moved(self.average, idle, self.cap)
         self.ended, self.ends = end, {}
 
     def above(self) -> Iterator[Node]:
@@ -102,7 +105,7 @@ class Cbq:
         self.asked: int | None = None
         self.told: list[tuple[Node, int]] = []
 
-    def wakes(self, _node: Node) -> list:
+    def wakes(self, _node: Node) -> list[Any]:
         """Nothing is reckoned where a class begins to wait."""
         return []
 
@@ -118,7 +121,7 @@ class Cbq:
     def loan(self, node: Node, now: int) -> tuple[int, Node] | None:
         """The least moment from `now` on at which a class above one that waits lends for its head, and the nearest that does then. None
         where nobody lends."""
-        found = None
+        found: tuple[int, Node] | None = None
         for lender in node.lenders:
             moment = lender.allowed(node.waiting[0].length, now, self.link)
             if found is None or moment < found[0]:
@@ -156,13 +159,13 @@ class Cbq:
         first = max(node.given.priority for node in able)
         return sorted((node.rounds(), self.ring(node), node) for node in able if node.given.priority == first)
 
-    def pick(self, start: int) -> Choice:
+    def pick(self, start: int) -> Choice[Node]:
         """Who sends at a moment at which some class may."""
         candidates = self.candidates(start)
         node = candidates[0][2]
         return Choice(node, OWN if self.own_moment(node, start) <= start else BORROW, start, candidates)
 
-    def sent(self, choice: Choice, packet: Packet, end: int) -> None:
+    def sent(self, choice: Choice[Node], packet: Packet, end: int) -> None:
         """Takes that the head of the choice is sent."""
         node, rounds = choice.of, choice.rivals[0][0]
         self.asked = None
@@ -174,7 +177,7 @@ class Cbq:
         for above in node.path():
             above.take(packet.length, end)
 
-    def contests(self, choice: Choice) -> list[Contest]:
+    def contests(self, choice: Choice[Node]) -> list[Contest]:
         """Among whom a choice was made: the classes of the greatest priority that may send, by their rounds."""
         ranked = [(node.name, rounds) for rounds, _ring, node in choice.rivals[:2]]
         return [contest("rounds", f"the classes of priority {choice.of.given.priority} that may send", ranked)]

@@ -2,9 +2,11 @@
 
 from __future__ import annotations
 
+from collections.abc import Sequence
 from dataclasses import dataclass
+from typing import Generic
 
-from .tree import Member
+from .tree import Node
 
 
 @dataclass
@@ -25,22 +27,21 @@ class Contest:
     @property
     def by(self) -> int | None:
         """By how much the second came behind; None where there was none, or one of both has no number."""
-        return None if self.second is None or None in (self.value, self.second_value) else self.second_value - self.value
+        return None if self.second is None or self.value is None or self.second_value is None else self.second_value - self.value
 
 
-def contest(measure: str, where: str, ranked: list[tuple[str, int | None]]) -> Contest:
+def contest(measure: str, where: str, ranked: Sequence[tuple[str, int | None]]) -> Contest:
     """The contest of candidates in their order, each a name and a number."""
-    first, second = ranked[0], ranked[1] if len(ranked) > 1 else (None, None)
-    return Contest(measure, where, *first, *second)
+    return Contest(measure, where, *ranked[0], *(ranked[1] if len(ranked) > 1 else (None, None)))
 
 
 @dataclass
-class Choice:
+class Choice(Generic[Node]):
     """Who is sent next: which member of a discipline, by which rule, and when it starts. `rivals` are the candidates of CBQ, whose
     credits a choice changes too, in their order."""
 
     __slots__ = ("of", "rule", "start", "rivals")
-    of: Member
+    of: Node
     rule: str
     start: int
-    rivals: list[tuple[int, int, Member]]
+    rivals: list[tuple[int, int, Node]]

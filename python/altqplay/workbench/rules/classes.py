@@ -86,7 +86,8 @@ def implied(interface: Interface) -> list[HfscClass | CbqClass]:
 
 def classes_of(interface: Interface) -> list[HfscClass | CbqClass]:
     """The classes of an interface, in the file's order."""
-    places, found = {"NULL": None}, []
+    places: dict[str, int | None] = {"NULL": None}
+    found: list[HfscClass | CbqClass] = []
     for words in interface.lines:
         found.append(class_of(words, places[words[4]]))
         places[words[3]] = len(found) - 1

@@ -25,8 +25,10 @@ class Openings:
         """`curve` has m1 and m2 in bits per second, and d in nanoseconds. One without a first piece is the line of m2."""
         is_line = curve.d == 0 or curve.m1 == curve.m2
         self.m1, self.d, self.m2 = (curve.m2, 0, curve.m2) if is_line else (curve.m1, curve.d, curve.m2)
-        self.first = self.last = None  # openings: a moment and the units that were sent before it
-        self.steep = self.flat = None  # of the lowest lines of slope m1 and of slope m2
+        self.first: tuple[int, int] | None = None  # openings: a moment and the units that were sent before it
+        self.last: tuple[int, int] | None = None
+        self.steep: int | None = None  # of the lowest lines of slope m1 and of slope m2
+        self.flat: int | None = None
 
     def begin(self, at: int, count: int) -> None:
         """Adds an opening, which is not before the last and has no smaller count."""
@@ -41,6 +43,7 @@ class Openings:
 
         The amount is no less than the count of any opening; where the curve rises, it is greater.
         """
+        assert self.first is not None and self.steep is not None and self.flat is not None
         if self.m1 < self.m2:
             return self.d + ceil_div(amount + self.flat, self.m2)
         if self.m2 == 0 and amount - self.first[1] > self.m1 * self.d:
@@ -52,9 +55,11 @@ class Openings:
 
     def soonest(self, count: int) -> int | None:
         """The first moment at which the eligible curve has reached a count; None where it never does."""
+        assert self.flat is not None
         return ceil_div(count + self.flat, self.m2) if self.m1 < self.m2 else self.reaches(count)
 
     def eligible(self, moment: int) -> int:
         """The eligible curve at a moment which is not before the last opening."""
+        assert self.steep is not None and self.flat is not None
         flat = self.m2 * moment - self.flat
         return flat if self.m1 < self.m2 else min(self.m1 * moment - self.steep, flat + (self.m1 - self.m2) * self.d)

@@ -25,7 +25,7 @@ def openings_of(curve: Curve | None) -> Openings | None:
     return None if curve is None else Openings(curve)
 
 
-class Node(Member):
+class Node(Member["Node"]):
     """A class: what waits in it, its real-time count and openings, its total, its virtual time, and its limit.
 
     `soonest` and `deadline` are those of its head, NEVER where there is none. `within` is the moment from which it is within its limit, and
@@ -50,6 +50,19 @@ class Node(Member):
         else:
             self.soonest = self.deadline = NEVER
 
+    def renew_within(self) -> None:
+        """Reckons from when on it is within its limit, whose second slope is not 0."""
+        within = None if self.limiter is None else self.limiter.reaches(self.total)
+        assert within is not None
+        self.within = within
+
+    def renew_virtual(self) -> None:
+        """Reckons its virtual time: when its link-sharing curve has given its total, and not before it became active."""
+        assert self.sharing is not None and self.sharing.last is not None
+        reached = self.sharing.reaches(self.total)
+        assert reached is not None
+        self.virtual = max(self.sharing.last[0], reached)
+
     def renew_opens(self) -> None:
         """Reckons from when on a leaf at or below may be served by share."""
         below = min((child.opens for child in self.children if child.is_active), default=0)
@@ -67,9 +80,9 @@ class Wake:
     def __init__(self, node: Node) -> None:
         self.node = node
         active = [child.virtual for child in node.parent.children if child.is_active] if node.parent else []
-        self.least, self.greatest = (min(active), max(active)) if active else (None, None)
+        self.least, self.greatest = min(active, default=None), max(active, default=None)
         self.high, self.own = node.parent.high if node.parent else 0, node.virtual
-        self.virtual = max(self.own, (self.least + self.greatest) // 2 if active else self.high)
+        self.virtual = max(self.own, (min(active) + max(active)) // 2 if active else self.high)
 
 
 class Hfsc:
@@ -102,12 +115,13 @@ class Hfsc:
         """Makes a class active. The root takes no virtual time."""
         node.is_active = True
         if node.parent is not None:
+            assert node.sharing is not None
             node.sharing.begin(virtual, node.total)
             node.virtual = virtual
             node.parent.high = max(node.parent.high, virtual)
         if node.limiter is not None:
             node.limiter.begin(arrival, node.total)
-            node.within = node.limiter.reaches(node.total)
+            node.renew_within()
 
     def renew_path(self, node: Node) -> None:
         """Reckons from when on the limits let a class and those above it be served."""
@@ -123,9 +137,9 @@ class Hfsc:
             return now
         return max(now, min(self.root.opens, min((node.soonest for node in self.real), default=NEVER)))
 
-    def pick(self, start: int) -> Choice:
+    def pick(self, start: int) -> Choice[Node]:
         """Who sends at a moment at which some leaf may: the choice by real time, else by share."""
-        found = None
+        found: Node | None = None
         for node in self.real:
             if node.soonest <= start and (found is None or node.deadline < found.deadline):
                 found = node
@@ -136,7 +150,7 @@ class Hfsc:
             node = min((child for child in node.children if child.is_active and child.opens <= start), key=lambda child: (child.virtual, child.place))
         return Choice(node, "share", start, [])
 
-    def sent(self, choice: Choice, packet: Packet, _end: int) -> None:
+    def sent(self, choice: Choice[Node], packet: Packet, _end: int) -> None:
         """Takes that the head of the choice is sent."""
         node, units = choice.of, BYTE * packet.length
         node.waiting.popleft()
@@ -144,16 +158,16 @@ class Hfsc:
             above.total += units
             above.is_active = bool(above.waiting) or any(child.is_active for child in above.children)
             if above.parent is not None:
-                above.virtual = max(above.sharing.last[0], above.sharing.reaches(above.total))
+                above.renew_virtual()
                 above.parent.high = max(above.parent.high, above.virtual)
             if above.limiter is not None:
-                above.within = above.limiter.reaches(above.total)
+                above.renew_within()
         if choice.rule == "realtime":
             node.count += units
         node.renew_head()
         self.renew_path(node)
 
-    def contests(self, choice: Choice) -> list[Contest]:
+    def contests(self, choice: Choice[Node]) -> list[Contest]:
         """Among whom a choice was made: by real time the eligible leaves, by share the children of each class on the way down."""
         if choice.rule == "realtime":
             eligible = nsmallest(2, (node for node in self.real if node.soonest <= choice.start), key=lambda node: (node.deadline, node.place))
@@ -161,7 +175,8 @@ class Hfsc:
             return [contest("deadline", "the eligible heads", ranked)]
         found = []
         for node in list(choice.of.path())[-2::-1]:
-            rivals = (child for child in node.parent.children if child.is_active and child.opens <= choice.start)
-            rivals = nsmallest(2, rivals, key=lambda child: (child.virtual, child.place))
+            assert node.parent is not None
+            able = (child for child in node.parent.children if child.is_active and child.opens <= choice.start)
+            rivals = nsmallest(2, able, key=lambda child: (child.virtual, child.place))
             found.append(contest("virtual time", f"the children of {node.parent.name}", [(child.name, child.virtual) for child in rivals]))
         return found

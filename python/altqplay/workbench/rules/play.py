@@ -2,17 +2,18 @@
 
 from __future__ import annotations
 
+from collections.abc import Sequence
 from dataclasses import dataclass
+from typing import Any
 
 from ..conf import Interface
 from .cbq import Cbq
 from .choices import Choice
-from .classes import classes_of
+from .classes import CbqClass, HfscClass, classes_of
 from .hfsc import Hfsc
 from .link import Link
 from .packets import Packet
 from .queues import Verdict, queue_of
-from .tree import Member
 from .words import Words
 
 LATER = 2**200
@@ -24,8 +25,14 @@ class Offer:
 
     __slots__ = ("packet", "of", "verdict")
     packet: Packet
-    of: Member
+    of: Any  # the class, as the discipline of the play has it
     verdict: Verdict | None
+
+    @property
+    def answer(self) -> Verdict:
+        """The verdict, once it was given."""
+        assert self.verdict is not None
+        return self.verdict
 
 
 @dataclass
@@ -34,8 +41,16 @@ class Sending:
 
     __slots__ = ("packet", "choice", "end")
     packet: Packet
-    choice: Choice
+    choice: Choice[Any]
     end: int
+
+
+def discipline_of(classes: Sequence[HfscClass | CbqClass], link: Link) -> Hfsc | Cbq:
+    """The choices of an interface with some classes, all of them of HFSC or all of CBQ."""
+    shared = [given for given in classes if isinstance(given, HfscClass)]
+    if len(shared) == len(classes):
+        return Hfsc(shared, link)
+    return Cbq([given for given in classes if isinstance(given, CbqClass)], link)
 
 
 class Play:
@@ -48,8 +63,8 @@ class Play:
         classes = classes_of(interface)
         self.packets, self.at = packets, 0
         self.link = Link(interface.bandwidth)
-        self.discipline = (Hfsc if interface.discipline == "hfsc" else Cbq)(classes, self.link)
-        self.members = self.discipline.members
+        self.discipline = discipline_of(classes, self.link)
+        self.members: Sequence[Any] = self.discipline.members
         self.queues = [queue_of(given.queue, interface.bandwidth) for given in classes]
         self.words = Words(seed)
         self.now = 0  # the last arrival that was offered, or the end of the last sending if that is later

@@ -90,7 +90,8 @@ class Red:
     """
 
     def __init__(self, limit: int, rate: int, rule: str) -> None:
-        self.limit, self.marks, self.marked = limit, rule == "ecn", []  # the numbers of the packets that were marked
+        self.limit, self.marks = limit, rule == "ecn"
+        self.marked: list[int] = []  # the numbers of the packets that were marked
         self.thresholds = [(lower * PACKET, upper * PACKET) for lower, upper in (RIO if rule == "rio" else RED)]
         self.step = time_of(TYPICAL, rate)
         places = len(self.thresholds)
@@ -138,7 +139,7 @@ class Red:
             verdict.over = average - verdict.lower
             verdict.spacing = SPACING * (verdict.upper - verdict.lower) - verdict.risen * verdict.over
             verdict.drawn = words.draw() if verdict.spacing > 0 else None
-            if verdict.spacing <= 0 or verdict.drawn * verdict.spacing < 2**32 * verdict.over:
+            if verdict.drawn is None or verdict.drawn * verdict.spacing < 2**32 * verdict.over:
                 verdict.word, verdict.count = EARLY, 0
 
     def added(self, packet: Packet) -> None:
