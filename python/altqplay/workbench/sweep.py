@@ -69,7 +69,7 @@ def add_arguments(parser):
 
 def numbers(text):
     """The seeds of a text as 1,5-9."""
-    found = []
+    found: list[int] = []
     for part in text.split(","):
         match = re.fullmatch(r"(\d+)(?:-(\d+))?", part)
         if match is None or int(match[2] or match[1]) < int(match[1]):

@@ -89,8 +89,12 @@ def allows(discipline: Cbq, node: CbqNode, length: int, start: int) -> str:
 
 def of_sending(play: Play, sending: Sending) -> list[str]:
     """The lines on a sending, before it is taken."""
-    by_rule = {"realtime": of_realtime, "share": of_share}
-    return by_rule.get(sending.choice.rule, of_cbq)(play.discipline, sending.choice) + waited(play, sending)
+    discipline, choice = play.discipline, sending.choice
+    if isinstance(discipline, Cbq):
+        lines = of_cbq(discipline, choice)
+    else:
+        lines = of_realtime(discipline, choice) if choice.rule == "realtime" else of_share(discipline, choice)
+    return lines + waited(play, sending)
 
 
 def of_wake(wake: Wake) -> str:
