@@ -48,6 +48,8 @@ def of_commands():
     assert len(altqplay.shares(LINES, PACKETS, interface="if0")) == 1
     assert altqplay.chain(CONF, PACKETS, "if1", interface="if0").path["end"].tolist()[0] == 3_000_000
     assert altqplay.condition(CONF + "conditioner if0 b srtcm 8M 1000 0 1\n", PACKETS, interface="if0")["tos"].tolist()[:2] == [10 << 2, 14 << 2]
+    assert altqplay.bound(CONF, PACKETS, interface="if0").set_index("class").loc["a", "bound"] == 1_400_000
+    assert altqplay.least_curve(CONF, PACKETS, "a", 1_400_000, interface="if0").m2 == 1000
     try:
         altqplay.play(CONF.replace("8M", "9"), PACKETS, interface="if0")
         raise AssertionError("a rate of 9 bits per second was taken")
