@@ -69,7 +69,7 @@ def test_no_packets(table):
 @pytest.mark.parametrize("old, new, why", [
     ("outcome", "fate", "its first row is not number,arrival,outcome,end"),
     ("1,100,sent,150", "1,100,sent", "line 2 (row 1): 3 words, and not 4"),
-    ("1,100,sent,150", "1,1e2,sent,150", "line 2 (row 1): arrival is no whole number below 2^63: '1e2'"),
+    ("1,100,sent,150", "1,1e2,sent,150", "line 2 (row 1): arrival is a float, as pandas makes of a column with empty fields: '1e2'"),
     ("1,100,sent,150", "1,100,share,150", "line 2 (row 1): no outcome: 'share'"),
     ("3,105,dropped2,", "3,105,dropped2,150", "line 4 (row 3): a packet that was dropped has an end"),
     ("4,110,sent,145", "4,110,sent,", "line 5 (row 4): end is no whole number below 2^63: ''"),
