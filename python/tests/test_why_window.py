@@ -2,6 +2,7 @@
 
 import os
 import random
+from types import SimpleNamespace
 
 import pytest
 import random_plays
@@ -10,10 +11,15 @@ from hypothesis import given, settings
 from hypothesis import strategies as some
 from worked import QUARTER
 
-from altqplay.workbench import why, why_window
+from altqplay.workbench import why, why_busy, why_state, why_virtual, why_window
+from altqplay.workbench.conf import Curve
 from altqplay.workbench.play import play
+from altqplay.workbench.rules.classes import HfscClass, Queueing
+from altqplay.workbench.rules.hfsc import Hfsc
+from altqplay.workbench.rules.link import Link
+from altqplay.workbench.why_history import Below
 
-pytest.importorskip("numpy")
+numpy = pytest.importorskip("numpy")
 HEAD = "number,arrival,length,class,fate,start,end\n"
 
 
@@ -49,7 +55,12 @@ def both(altqwork, monkeypatch, words):
     return found[:2]
 
 
-def test_random_decisions(altqwork, program, tmp_path, monkeypatch):
+@pytest.mark.parametrize("few, last", [(16, 4096), (1, 2)])
+def test_random_decisions(altqwork, program, tmp_path, monkeypatch, few, last):
+    """The second time all busy periods are reckoned beside each other, and averages are sought from the last two idle times on."""
+    monkeypatch.setattr(why_busy, "FEW", few)
+    monkeypatch.setattr(why_state, "LAST", last)
+
     @settings(max_examples=60, deadline=None)
     @given(some.integers(0, 10**9))
     def holds(seed):
@@ -75,6 +86,62 @@ def test_each_packet_of_one_play(altqwork, program, tmp_path, monkeypatch):
         for moment in moments(rows)[:60]:
             whole, part = both(altqwork, monkeypatch, [*words, "--at", moment])
             assert whole[0] == 0 and part == whole
+
+
+@given(some.integers(0, 10**9), some.sampled_from([1, 3, 10**9]))
+@settings(max_examples=150, deadline=None)
+def test_busy_periods_beside_each_other(seed, few):
+    """Virtual times, openings and the high mark are those that one event after the other gives, of any children whose curves do not fall."""
+    found = []
+    for family in (random_family(random.Random(seed)) for _ in range(2)):
+        if not found:
+            family.busy = lambda *_words: None
+        with pytest.MonkeyPatch.context() as patch:
+            patch.setattr(why_busy, "FEW", few)
+            family.set()
+        sharing = [node.sharing for node in family.nodes]
+        found.append((family.parent.high, [node.virtual for node in family.nodes], family.highs.tolist(), [(one.first, one.last, one.steep, one.flat) for one in sharing]))
+    assert found[0] == found[1]
+
+
+def random_family(chance):
+    """Some children with whole numbers of packets that come and go at random places of a play."""
+    count = chance.choice([1, 2, 3, 6])
+    classes = [HfscClass("root", None, Queueing())]
+    for place in range(count):
+        slope = chance.choice([1000, 777_777, 2_000_000, 10**9])
+        classes.append(HfscClass(f"c{place}", 0, Queueing(), share=chance.choice([Curve(slope, 0, slope), Curve(0, 5_000_000, slope)])))
+    waiting, events, sent = [0] * count, [[[], [], []] for _ in range(count)], chance.choice([[1], [60, 1514]])
+    for at in range(chance.choice([0, 10, 100, 400])):
+        one = chance.randrange(count)
+        if waiting[one] and chance.random() < 0.6:
+            waiting[one] -= 1
+            events[one][1].append(at)
+            events[one][2].append(chance.choice(sent))
+        else:
+            waiting[one] += 1
+            events[one][0].append(at)
+    nodes = Hfsc(classes, Link(10**9)).members
+    return why_virtual.Family(nodes[0], {place + 1: below_of(*one) for place, one in enumerate(events)})
+
+
+def below_of(came, went, lengths):
+    """What came and went of a class, by places among all events."""
+    columns = [numpy.array(values, dtype=numpy.int64) for values in (came, went, lengths)]
+    history = SimpleNamespace(came_at=columns[0], went_at=columns[1], columns=SimpleNamespace(sent_length=columns[2]))
+    return Below(history, numpy.arange(len(came)), numpy.arange(len(went)))
+
+
+@given(some.lists(some.integers(-10**6, 10**6), max_size=200), some.integers(0, 10**6), some.sampled_from([1, 5, 4096]))
+@settings(max_examples=200, deadline=None)
+def test_averages_from_the_last_idle_times(idles, cap, last):
+    """An average that is sought from the last idle times is that of all of them."""
+    node = SimpleNamespace(cap=cap, given=SimpleNamespace(rate=8 * 10**9))
+    ends = numpy.cumsum([0] + [idle + 1 for idle in idles])
+    columns = SimpleNamespace(end=ends, sent_length=numpy.ones(len(ends), dtype=numpy.int64))
+    with pytest.MonkeyPatch.context() as patch:
+        patch.setattr(why_state, "LAST", last)
+        assert why_state.average_of(node, columns, numpy.arange(len(ends))) == why_state.average_behind(cap, idles, cap)
 
 
 def test_last_line_says_how_many(altqwork, played, monkeypatch):

@@ -17,6 +17,8 @@ BLOCK = 2**15  # rows that are read at a time, which a processor's own memory ho
 # By how many bytes of a word are of the field, its last ones: a mask of these, and the digit 0 in the others.
 KEPT = numpy.array([2**64 - 2 ** (8 * (WORD - size)) for size in range(WORD + 1)], dtype=numpy.uint64)
 ZEROS = numpy.array([0x3030303030303030 & (2 ** (8 * (WORD - size)) - 1) for size in range(WORD + 1)], dtype=numpy.uint64)
+# By how many digits a number has the least that has so many; of one digit 0.
+LEAST = numpy.array([0, 0] + [10**(size - 1) for size in range(2, LONGEST + 1)], dtype=numpy.uint64)
 DIGIT, OVER, HIGH = (numpy.uint64(value * 0x0101010101010101) for value in (ord("0"), 0x80 - 10, 0x80))
 # Neighbours of a word, digits and then pairs and fours of them, become one number: factor, shift, mask.
 STEPS = [tuple(map(numpy.uint64, step)) for step in (
@@ -36,7 +38,7 @@ class Fields:
         if odd:
             raise ValueError
         self.data, self.text, self.ends = data, text, marks[1:].reshape(-1, len(head))
-        self.begins = marks[:-1].reshape(-1, len(head)) + 1
+        self.marks = marks[:-1].reshape(-1, len(head))  # that before each field
         found = text[self.ends]
         if not (found[:, :-1] == ord(",")).all() or not (found[:, -1] == ord("\n")).all():
             raise ValueError
@@ -44,15 +46,16 @@ class Fields:
 
     def sizes(self, column: int) -> numpy.ndarray:
         """How many bytes the fields of a column have."""
-        return self.ends[:, column] - self.begins[:, column]
+        return self.ends[:, column] - self.marks[:, column] - 1
 
     def word(self, ends: numpy.ndarray, place: int, sizes: numpy.ndarray) -> tuple[numpy.ndarray, numpy.ndarray]:
         """The word that stands so many before some ends of fields, 0 where it is not of the field, and how many bytes of it are."""
-        held = numpy.clip(sizes - WORD * place, 0, WORD)
+        is_one = int(sizes.min()) == int(sizes.max())  # as most stamps have
+        held = numpy.clip(sizes[:1] if is_one else sizes, WORD * place, WORD * (place + 1)) - WORD * place
         return self.words[numpy.maximum(ends - WORD * (place + 1), 0)] & KEPT[held], held
 
     def number(self, ends: numpy.ndarray, sizes: numpy.ndarray) -> numpy.ndarray:
-        """The numbers of some fields, of 64 bits, 0 for an empty one. `ValueError` where a byte is no digit."""
+        """The numbers of some fields, of 64 bits, 0 for an empty one. `ValueError` where a byte is no digit, or the first of several is 0."""
         total = numpy.zeros(len(ends), dtype=numpy.uint64)
         for place in range(-(-int(sizes.max(initial=0)) // WORD)):
             word, held = self.word(ends, place, sizes)
@@ -65,6 +68,8 @@ class Fields:
                 word >>= shift
                 word &= mask
             total += word * numpy.uint64(10 ** (WORD * place))
+        if (total < LEAST[sizes]).any():
+            raise ValueError
         return total
 
     def numbers(self, column: int, may_lack: bool = False) -> numpy.ndarray:
@@ -75,10 +80,11 @@ class Fields:
         blocks = [slice(begin, begin + BLOCK) for begin in range(0, self.count, BLOCK)]
         parts = [self.number(ends[block], sizes[block]) for block in blocks]
         total = numpy.concatenate(parts) if parts else numpy.zeros(0, dtype=numpy.uint64)
-        if (total >> numpy.uint64(63)).any() or (self.text[self.begins[sizes > 1, column]] == ord("0")).any():
+        if int(total.max(initial=0)) >= 2**63:
             raise ValueError
-        found = total.astype(numpy.int64)
-        found[sizes == 0] = -1
+        found = total.view(numpy.int64)
+        if not sizes.all():
+            found[sizes == 0] = -1
         return found
 
     def names(self, column: int) -> tuple[list[str], numpy.ndarray]:
@@ -93,7 +99,7 @@ class Fields:
             codes = distinct(codes)[1] if place else codes
         first = numpy.zeros(int(codes.max(initial=-1)) + 1, dtype=numpy.int64)
         first[codes[::-1]] = numpy.arange(self.count)[::-1]
-        words = [self.data[self.begins[row, column]:self.ends[row, column]].decode("latin-1") for row in first.tolist()]
+        words = [self.data[self.marks[row, column] + 1:self.ends[row, column]].decode("latin-1") for row in first.tolist()]
         order = sorted(range(len(words)), key=words.__getitem__)
         places = numpy.zeros(len(words), dtype=numpy.int64)
         places[order] = numpy.arange(len(words))

@@ -12,7 +12,8 @@ from dataclasses import dataclass
 
 import numpy
 
-from .rules.cbq import Cbq, Node as CbqNode, moved
+from .columns import distinct
+from .rules.cbq import AVERAGE, Cbq, Node as CbqNode, moved
 from .rules.classes import CbqClass, classes_of
 from .rules.curves import Openings
 from .rules.hfsc import Hfsc
@@ -22,6 +23,9 @@ from .rules.queues import GAIN, SPACING, WEIGHT, Red, idled
 from .rules.units import BYTE
 from .why_history import Below, Columns, History, Point, highest
 from .why_virtual import Family
+
+
+LAST = 4096  # idle times from which an average is sought first
 
 
 def packet_of(columns: Columns, packet: int, services: tuple[list[int], list[bool]] | None) -> Packet:
@@ -152,12 +156,33 @@ def credit_of(node: CbqNode, lengths: list[int]) -> int:
 
 
 def average_of(node: CbqNode, columns: Columns, went: numpy.ndarray) -> int:
-    """The average of a class behind some sendings."""
+    """The average of a class behind some sendings. No average passes another of the same class, so where the last idle times lead the greatest and
+    the least that there can be to one, that is the average, whatever was before them."""
     end = columns.end[went]
-    lengths, places = numpy.unique(columns.sent_length[went[1:]], return_inverse=True)
+    lengths, places = distinct(columns.sent_length[went[1:]])
     own = numpy.array([-(-BYTE * int(length) // node.given.rate) for length in lengths], dtype=numpy.int64)
-    average, cap = node.cap, node.cap
-    for idle in (end[1:] - end[:-1] - own[places]).tolist() if len(lengths) else []:
+    idles = end[1:] - end[:-1] - own[places] if len(lengths) else end[1:]
+    least, last = -AVERAGE * max(0, -int(idles.min(initial=0))), LAST  # from there the shortest idle time leads back there
+    while last < len(idles):
+        one, other = averages(node.cap, least, idles[-last:].tolist(), node.cap)
+        if one == other:
+            return one
+        last *= 8
+    return averages(node.cap, node.cap, idles.tolist(), node.cap)[0]
+
+
+def averages(one: int, other: int, idles: list[int], cap: int) -> tuple[int, int]:
+    """Two averages behind some idle times."""
+    for at, idle in enumerate(idles):
+        if one == other:
+            return (average_behind(one, idles[at:], cap),) * 2
+        one, other = moved(one, idle, cap), moved(other, idle, cap)
+    return one, other
+
+
+def average_behind(average: int, idles: list[int], cap: int) -> int:
+    """An average behind some idle times."""
+    for idle in idles:
         average = moved(average, idle, cap)
     return average
 

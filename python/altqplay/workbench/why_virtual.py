@@ -9,13 +9,42 @@ virtual time that they give; only of a curve that falls the second slope keeps i
 
 from __future__ import annotations
 
+from collections.abc import Iterator
+from dataclasses import dataclass
+
 import numpy
 
 from .rules.hfsc import Node
 from .rules.units import BYTE
+from .why_busy import Events
 from .why_history import MOST, Below, Unordered
 
 MANY = 2**24  # looks at active siblings, more of which take more memory than a replay takes time
+
+
+@dataclass
+class Looks:
+    """Looks at active siblings, event by event: those of event n stand from `bounds[n]` up to `bounds[n + 1]`. Of each the sibling, by how much
+    it moved since its opening, what it was sent, and the event by which it became active."""
+
+    bounds: numpy.ndarray
+    sibling: numpy.ndarray
+    moved: numpy.ndarray
+    total: numpy.ndarray
+    stay: numpy.ndarray
+
+
+def bounds_of(values: numpy.ndarray, count: int) -> Iterator[tuple[int, int]]:
+    """Of rising numbers below `count`, where each begins and ends."""
+    found = numpy.searchsorted(values, numpy.arange(count + 1)).tolist()
+    return zip(found[:-1], found[1:])
+
+
+def last_of(of: numpy.ndarray, rows: numpy.ndarray, count: int) -> list[int]:
+    """The last of some rows of each number below `count`, -1 where it has none."""
+    found = numpy.full(count, -1)
+    found[of[rows]] = rows  # of several numpy keeps the last
+    return found.tolist()
 
 
 class Family:
@@ -44,7 +73,7 @@ class Family:
         self.rows = numpy.flatnonzero(is_other)
         self.passed = numpy.searchsorted(self.pairs, self.rows)
         self.opened, self.base, self.own, self.flat = ([0] * len(self.nodes) for _ in range(4))
-        self.highs = [0]
+        self.highs = numpy.zeros(1, dtype=numpy.int64)
 
     def events(self) -> tuple[numpy.ndarray, ...]:
         """The columns of all events."""
@@ -83,9 +112,8 @@ class Family:
         has_end = (begins + 1 < len(order)) & (place[order[behind]] == place[order[begins]]) if len(order) else begins > 0
         return order[begins], numpy.where(has_end, order[behind], len(order)) if len(order) else begins
 
-    def looks(self, begins: numpy.ndarray, ends: numpy.ndarray) -> tuple[list[int], list[int], list[int], list[int]]:
-        """For each row how many looks at active siblings stand before it, and of each look the sibling, by how much it moved since its opening,
-        and what it was sent: those that are active where a child becomes so."""
+    def looks(self, begins: numpy.ndarray, ends: numpy.ndarray) -> Looks:
+        """The looks at active siblings: those that are active where a child becomes so."""
         wakes = self.wakes[self.rows]
         before = numpy.concatenate([[0], numpy.cumsum(wakes)])
         first, count = before[begins] + 1, before[ends] - before[begins] - 1
@@ -95,50 +123,96 @@ class Family:
         wake = numpy.arange(len(stay)) - numpy.repeat(numpy.cumsum(count) - count, count) + numpy.repeat(first, count)
         at, sibling = self.at[self.rows[numpy.flatnonzero(wakes)[wake]]], self.place[self.rows[begins]][stay]
         total = numpy.zeros(len(stay), dtype=numpy.int64)
-        for number, found in enumerate(self.below):
-            own = sibling == number
-            total[own] = found.sums[numpy.searchsorted(found.went_at, at[own])]
+        for number, (begin, end) in enumerate(bounds_of(sibling, len(self.below))):  # they stand by sibling
+            found = self.below[number]
+            total[begin:end] = found.sums[numpy.searchsorted(found.went_at, at[begin:end])]
         moved = self.gained(sibling, total - self.sent[self.rows[begins]][stay])
         order = numpy.argsort(wake, kind="stable")
-        bounds = numpy.searchsorted(wake[order], numpy.arange(int(before[-1]) + 1))
-        return bounds[before].tolist(), sibling[order].tolist(), moved[order].tolist(), total[order].tolist()
+        bounds = numpy.concatenate([[0], numpy.cumsum(numpy.bincount(wake, minlength=int(before[-1]) + 1))])
+        return Looks(bounds[before], *(values[order] for values in (sibling, moved, total, begins[stay])))
 
     def behind(self, pair: numpy.ndarray) -> tuple[numpy.ndarray, numpy.ndarray]:
         """The high mark behind some pairs, as a place of `highs` and how much above."""
         last = numpy.searchsorted(self.passed, pair, side="right")
         return last, self.sums[pair + 1] - numpy.concatenate([[0], self.sums[self.passed]])[last]
 
-    def columns(self) -> list[list]:
-        """What `set` looks at, event by event: the child, whether it becomes active, what the pairs before it gained, by how much a child that
-        is no more active moved since its opening, what it was sent, and where its looks begin and end."""
-        begins, ends = self.stays()
-        bounds, *self.seen = self.looks(begins, ends)
-        is_over = ends < len(self.rows)
-        moved = numpy.zeros(len(self.rows), dtype=object)
-        moved[ends[is_over]] = self.gained(self.place[self.rows[begins[is_over]]], self.sent[self.rows[ends[is_over]]] - self.sent[self.rows[begins[is_over]]])
-        gained = numpy.diff(numpy.concatenate([[0], self.sums[self.passed]]))
-        return [*(values[self.rows].tolist() for values in (self.place, self.wakes, self.sent)), gained.tolist(), moved.tolist(), bounds[:-1], bounds[1:]]
+    def moves(self, begins: numpy.ndarray, ends: numpy.ndarray) -> numpy.ndarray:
+        """By how much a child that is no more active moved since its opening, event by event."""
+        begins, ends = begins[ends < len(self.rows)], ends[ends < len(self.rows)]
+        found = self.gained(self.place[self.rows[begins]], self.sent[self.rows[ends]] - self.sent[self.rows[begins]])
+        moved = numpy.zeros(len(self.rows), dtype=found.dtype)
+        moved[ends] = found
+        return moved
 
     def set(self) -> None:
         """Reckons the virtual times of the children, and the high mark."""
-        opened, own, base, bends, highs, high = self.opened, self.own, self.base, self.bends, self.highs, 0
-        for one, wakes, sent, gained, moved, look, end in zip(*self.columns()):
-            high += gained
+        begins, ends = self.stays()
+        self.seen, moved = self.looks(begins, ends), self.moves(begins, ends)
+        gained = numpy.diff(numpy.concatenate([[0], self.sums[self.passed]]))
+        events = self.busy(begins, ends, moved, gained)
+        if events is not None and events.fits():
+            self.beside(events)
+        else:
+            self.one_by_one(moved, gained)
+        self.finish(int(self.highs[-1]) + int(self.sums[-1]) - (int(self.sums[self.passed[-1]]) if len(self.passed) else 0))
+
+    def busy(self, begins: numpy.ndarray, ends: numpy.ndarray, moved: numpy.ndarray, gained: numpy.ndarray) -> Events | None:
+        """The events as busy periods tell them; None where a curve falls, or 64 bits do not hold how much a child moved."""
+        seen = self.seen
+        if any(self.bends) or moved.dtype == object or seen.moved.dtype == object:
+            return None
+        count = len(self.rows)
+        stay, before = numpy.zeros(count, dtype=numpy.int64), numpy.full(count, -1)
+        stay[ends[ends < count]] = begins[ends < count]
+        is_next = self.place[self.rows[begins[1:]]] == self.place[self.rows[begins[:-1]]]  # they stand by child
+        before[begins[1:][is_next]] = ends[:-1][is_next]
+        return Events(self.wakes[self.rows], gained, stay, moved, before, seen.bounds, seen.stay, seen.moved)
+
+    def beside(self, events: Events) -> None:
+        """Reckons the busy periods beside each other."""
+        virtual, self.highs = events.virtual_times()
+        of, sent = self.place[self.rows], self.sent[self.rows]
+        for kind in (events.wakes, ~events.wakes):
+            last = last_of(of, numpy.flatnonzero(kind), len(self.nodes))
+            for one, row in enumerate(last):
+                if row >= 0 and kind is events.wakes:
+                    self.opened[one], self.base[one] = int(virtual[row]), int(sent[row]) + 1  # 0 is that of a child without an opening
+                elif row >= 0:
+                    self.own[one] = int(virtual[row])
+
+    def dues(self, places: numpy.ndarray, sent: numpy.ndarray) -> list[int]:
+        """By some bytes that children were sent, what their second slopes and a highest line have given by then, in units."""
+        kinds = [object if most >= MOST else numpy.int64 for most in (max(self.bends), int(sent.max(initial=0)) * BYTE)]
+        return (BYTE * sent.astype(kinds[1]) - numpy.array(self.bends, dtype=kinds[0])[places]).tolist()
+
+    def one_by_one(self, moved: numpy.ndarray, gained: numpy.ndarray) -> None:
+        """Reckons one event after the other."""
+        opened, own, base, bends, flat, slopes, highs, high = self.opened, self.own, self.base, self.bends, self.flat, [curve.m2 for curve in self.curves], [0], 0
+        places, bounds = self.place[self.rows], self.seen.bounds.tolist()
+        self.looked = self.seen.sibling.tolist(), self.seen.moved.tolist(), self.dues(self.seen.sibling, self.seen.total), slopes
+        rows = places.tolist(), self.wakes[self.rows].tolist(), self.sent[self.rows].tolist(), self.dues(places, self.sent[self.rows])
+        for one, wakes, sent, due, gain, move, look, end in zip(*rows, gained.tolist(), moved.tolist(), bounds[:-1], bounds[1:]):
+            high += gain
             if not wakes:
-                virtual = own[one] = self.later(one, opened[one] + moved, sent) if bends[one] else opened[one] + moved
+                virtual = opened[one] + move
+                if bends[one]:
+                    second = -(-(due + flat[one]) // slopes[one])
+                    virtual = second if second > virtual else virtual
+                own[one] = virtual
             else:
                 virtual = high
                 if look != end:
                     virtual = self.middle(look, end)
                     virtual = own[one] if own[one] > virtual else virtual
                 opened[one] = virtual
-                if bends[one]:
-                    self.bend(one, sent)
+                if bends[one]:  # of a curve that falls the highest line of its second slope is kept
+                    line = slopes[one] * virtual - BYTE * sent
+                    flat[one] = line if not base[one] or line > flat[one] else flat[one]
                 base[one] = sent + 1  # 0 is that of a child without an opening
             if virtual > high:
                 high = virtual
             highs.append(high)
-        self.finish(high + int(self.sums[-1]) - (int(self.sums[self.passed[-1]]) if len(self.passed) else 0))
+        self.highs = numpy.array(highs, dtype=object)
 
     def later(self, one: int, virtual: int, sent: int) -> int:
         """The virtual time of a child that was sent so many bytes, by the second slope too where its curve falls."""
@@ -146,31 +220,32 @@ class Family:
             return virtual
         return max(virtual, -(-(BYTE * sent + self.flat[one] - self.bends[one]) // self.curves[one].m2))
 
-    def bend(self, one: int, sent: int) -> None:
-        """A child whose curve falls opens: the highest line of its second slope is kept."""
-        flat = self.curves[one].m2 * self.opened[one] - BYTE * sent
-        self.flat[one] = max(self.flat[one], flat) if self.base[one] else flat
-
     def middle(self, look: int, end: int) -> int:
         """The middle of the least and the greatest virtual time of those that some looks see."""
-        siblings, moved, total = self.seen
-        if end == look + 1:
-            one = siblings[look]
-            virtual = self.opened[one] + moved[look]
-            return self.later(one, virtual, total[look]) if self.bends[one] else virtual
-        found = [self.later(siblings[at], self.opened[siblings[at]] + moved[at], total[at]) for at in range(look, end)]
-        return (min(found) + max(found)) // 2
+        siblings, moved, dues, slopes = self.looked
+        opened, flat, bends, least, greatest = self.opened, self.flat, self.bends, -1, -1
+        for at in range(look, end):
+            one = siblings[at]
+            virtual = opened[one] + moved[at]
+            if bends[one]:
+                second = -(-(dues[at] + flat[one]) // slopes[one])
+                virtual = second if second > virtual else virtual
+            if virtual > greatest:
+                greatest = virtual
+            if virtual < least or least < 0:
+                least = virtual
+        return (least + greatest) // 2
 
     def finish(self, high: int) -> None:
         """Gives each child its virtual time and its openings, and the class its high mark."""
         of_row, of_pair = self.place[self.rows], self.place[self.pairs]
-        for one, (node, found) in enumerate(zip(self.nodes, self.below)):
-            rows, pairs = numpy.flatnonzero(of_row == one)[-1:], numpy.flatnonzero(of_pair == one)[-1:]
+        last_rows, last_pairs = (last_of(of, numpy.arange(len(of)), len(self.nodes)) for of in (of_row, of_pair))
+        for one, (node, found, row, pair) in enumerate(zip(self.nodes, self.below, last_rows, last_pairs)):
             virtual = self.own[one]
-            if len(pairs) and (not len(rows) or pairs[0] >= self.passed[rows[0]]):
-                mark, more = self.behind(pairs)
-                virtual = self.highs[int(mark[0])] + int(more[0])
-                self.opened[one], self.base[one] = virtual - int(self.gains[pairs[0]]), int(self.sent[self.pairs[pairs[0]]]) + 1
+            if pair >= 0 and (row < 0 or pair >= self.passed[row]):
+                mark, more = self.behind(numpy.array([pair]))
+                virtual = int(self.highs[int(mark[0])]) + int(more[0])
+                self.opened[one], self.base[one] = virtual - int(self.gains[pair]), int(self.sent[self.pairs[pair]]) + 1
             elif found.is_active:
                 moved = self.gained(numpy.array([one]), numpy.array([found.total - self.base[one] + 1]))
                 virtual = self.later(one, self.opened[one] + int(moved[0]), found.total) if found.total >= self.base[one] else self.opened[one]
