@@ -6,9 +6,10 @@ ghost use Rattle.std.specs.Process.{exit_status};
 
 mod talk;
 
-use play_cli::{Status, run};
+use play_cli::{Ran, run_read};
 use play_hints::{NO_UTF8, OUT_OF_MEMORY};
 use real_files::{RealFiles, Seen};
+use run_outcomes::{Status, status_of};
 use std::fs::File;
 use std::io::IsTerminal;
 use std::os::fd::AsRawFd;
@@ -46,9 +47,9 @@ fn reserved(rt: &HostRuntime) -> Option<File> {
 }
 
 // Says on standard error what a person needs after a run. Where it cannot be said the status stays.
-fn say_hint(rt: &HostRuntime, words: &[String], status: Status, seen: &Seen) {
+fn say_hint(rt: &HostRuntime, words: &[String], ran: &Ran<'_>, seen: &Seen) {
     let is_terminal = rt.stderr().is_terminal();
-    let _ = match talk::text(rt.alloc(), words, status, seen, is_terminal) {
+    let _ = match talk::text(rt.alloc(), words, ran, seen, is_terminal) {
         Ok(text) => rt.eprint(text.as_str()),
         Err(_) => rt.eprint(OUT_OF_MEMORY),
     };
@@ -73,7 +74,7 @@ fn main(rt: HostRuntime) -> io::Result<ExitCode> {
     };
     let alloc = rt.alloc();
     let mut files = RealFiles::new(alloc, &rt);
-    let status = run(alloc, &words, &mut files);
-    say_hint(&rt, &words, status, files.seen());
-    Ok(exit_of(status))
+    let ran = run_read(alloc, &words, &mut files);
+    say_hint(&rt, &words, &ran, files.seen());
+    Ok(exit_of(status_of(ran.outcome)))
 }

@@ -1,5 +1,5 @@
 -- From the first four bytes of the arrivals to all that is played of them.
-use Rattle.std.proofs.Common.{◌≡◌, ◌∙◌, ◌++◌, ◌≤◌, ℕ, Bool, true, false, List, [], Some, ap, sym, refl, subst, arith, inl, inr, take, length, append-nil}
+use Rattle.std.proofs.Common.{◌≡◌, ◌∙◌, ◌++◌, ◌≤◌, ℕ, Bool, true, false, List, [], Some, ap, sym, refl, subst, arith, inl, inr, take, length, length-append, append-nil, ◌+◌}
 use Rattle.std.specs.Prelude.{◌⊎◌, ◌<◌, ◌∷◌, bytes_eq}
 use Rattle.std.proofs.lemmas.Grind.{common_steps}
 use Rattle.std.proofs.lemmas.List.{nil_from_length}
@@ -12,7 +12,7 @@ use Rattle.pcapng_files.specs.declared.fault.NgFault.{NgFault}
 use Rattle.pcapng_files.specs.declared.fault.NgFault.TheVariants as ng
 use Rattle.play_base.specs.View.{View, IsAtEnd}
 use Rattle.play_base.proofs.ViewLaws.{rose_later}
-use Rattle.arrivals_front.specs.Given.{Follows, IsCutShort, IsRefused, ReadAs, ReadBy, conversion_fault, is_pcapng}
+use Rattle.arrivals_front.specs.Given.{BegunBy, Follows, IsBegunAt, IsCutShort, IsRefused, ReadAs, ReadBy, conversion_fault, is_pcapng}
 use Rattle.arrivals_front.specs.Taking.{Gained, IsRestOf}
 use Rattle.arrivals_front.specs.declared.given.Given.{Given}
 use Rattle.arrivals_front.specs.declared.given.GivenFault.{GivenFault}
@@ -79,19 +79,35 @@ follows_itself old new file taken given g front rest x other h =
       pcapng = λ h. absurd (not_both g.rest rest h);
     }
 
+four_or_all : (given taken rest : List ℕ) → given ≡ taken ++ rest → (length taken ≡ 4) ⊎ (length rest ≡ 0) → BegunBy false given rest
+four_or_all given taken rest e (inl four) =
+    let l : length given ≡ length taken + length rest = ap length e ∙ length-append taken rest in inr (omega (arith, l, four))
+four_or_all given taken rest e (inr none) = inl (nil_from_length rest none)
+
+begun_by : (given rest : List ℕ) (b : Bool) → is_pcapng given ≡ b → BegunBy b given rest → BegunBy (is_pcapng given) given rest
+begun_by given rest b e x = let P : Bool → Type 0 = λ c. BegunBy c given rest in subst P (sym e) x
+
+pub begun_itself : (old new : View) (file : ℕ) (taken given : List ℕ) → IsBegun old new file taken → is_pcapng taken ≡ false → old.left file ≡ Some given
+    → IsBegunAt new file given
+begun_itself old new file taken given x other h =
+    let s = split old new file taken given x h in
+    (s.rest, s.left, begun_by given s.rest false (s.kind ∙ other) (four_or_all given taken s.rest s.joined (at_end new file taken s.rest x.enough s.left)))
+
 -- A PCAPNG FILE
 -- all of it was taken
-pub record IsTaken (old : View) (file : ℕ) (given whole : List ℕ) : Type 0 where
+pub record IsTaken (new : View) (file : ℕ) (given whole : List ℕ) : Type 0 where
   pub same : given ≡ whole
   pub kind : is_pcapng given ≡ true
+  pub left : new.left file ≡ Some []
 
 pub taken_all : (old mid new : View) (file : ℕ) (taken whole given : List ℕ) → IsBegun old mid file taken → is_pcapng taken ≡ true
-    → IsRestOf mid new file taken whole → old.left file ≡ Some given → IsTaken old file given whole
+    → IsRestOf mid new file taken whole → old.left file ≡ Some given → IsTaken new file given whole
 taken_all old mid new file taken whole given x begins all h =
     let s = split old mid file taken given x h in
-    record { same = s.joined ∙ sym (all s.rest s.left); kind = s.kind ∙ begins }
+    let r = all s.rest s.left in
+    record { same = s.joined ∙ sym r.0; kind = s.kind ∙ begins; left = r.1 }
 
-pub follows_converted : (old new : View) (file : ℕ) (given whole : List ℕ) (g : Given) → g.rest ≡ false → IsTaken old file given whole
+pub follows_converted : (old new : View) (file : ℕ) (given whole : List ℕ) (g : Given) → g.rest ≡ false → IsTaken new file given whole
     → IsConversion whole g.front.items → Follows new file given g
 follows_converted old new file given whole g rest x c =
     record {
@@ -101,6 +117,10 @@ follows_converted old new file given whole g rest x c =
       classic = λ h. absurd (not_both g.rest h rest);
       pcapng = λ _. x.kind;
     }
+
+pub begun_whole : (new : View) (file : ℕ) (given whole capture : List ℕ) → IsTaken new file given whole → IsConversion whole capture → IsBegunAt new file given
+begun_whole new file given whole capture x c =
+    ([], x.left, begun_by given [] true x.kind (refl, (capture, subst (λ (w : List ℕ). IsConversion w capture) (sym x.same) c)))
 
 cause_of : (f : NgFault) (given whole : List ℕ) → given ≡ whole → IsCause f whole → IsCause f given
 cause_of f given whole e x = subst (λ (w : List ℕ). IsCause f w) (sym e) x

@@ -1,6 +1,6 @@
 -- How a file of arrivals is read: as a classic capture or, where it begins with the type of a section header block, as a pcapng one
 -- (IETF draft-ietf-opsawg-pcapng).
-use Rattle.std.specs.Prelude.{◌≡◌, ◌≤◌, ℕ, Bool, true, false, List, [], ◌∷◌, length, take, bytes_eq, Some}
+use Rattle.std.specs.Prelude.{◌≡◌, ◌≤◌, ◌⊎◌, ◌+◌, ℕ, Bool, true, false, List, [], ◌∷◌, length, take, bytes_eq, Some}
 use Rattle.pcapng_files.specs.Converted.{IsCause, IsConversion}
 use Rattle.pcapng_files.specs.Fronts.{with_front}
 use Rattle.pcapng_files.specs.declared.fault.NgFault.{NgFault}
@@ -32,6 +32,15 @@ pub record Follows (new : View) (file : ℕ) (given : List ℕ) (g : Given) : Ty
   pub left : with_front true g.rest g.front.items (new.left file) ≡ Some bytes
   pub classic : g.rest ≡ true → (is_pcapng given ≡ false) × (length g.front.items ≤ 4)
   pub pcapng : g.rest ≡ false → is_pcapng given ≡ true
+
+-- of a pcapng file all was taken, and it reads as a capture; of any other the first four bytes, or all
+abbrev pub BegunBy : (pcapng : Bool) → (given rest : List ℕ) → Type 0
+BegunBy true given rest = (rest ≡ []) × ((capture : List ℕ) × IsConversion given capture)
+BegunBy false given rest = (rest ≡ []) ⊎ (4 + length rest ≤ length given)
+
+-- that was taken of what the file had left
+abbrev pub IsBegunAt : View → (file : ℕ) → (given : List ℕ) → Type 0
+IsBegunAt new file given = (rest : List ℕ) × (new.left file ≡ Some rest) × BegunBy (is_pcapng given) given rest
 
 -- why the arrivals cannot be read: what a pcapng file tells, or a read that failed
 abbrev pub IsRefused : View → View → (file : ℕ) → GivenFault → Type 0

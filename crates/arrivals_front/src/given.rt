@@ -1,9 +1,9 @@
 // How a file of arrivals is read.
-ghost use Rattle.std.specs.Prelude.{◌≡◌, ◌≢◌, ◌≤◌, List, ℕ, true, Some, length, IsSome, IfOk, IfErr, OnOk};
+ghost use Rattle.std.specs.Prelude.{◌≡◌, ◌≤◌, List, ℕ, true, Some, length, IsSome, IfOk, IfErr, OnOk};
 ghost use Rattle.capture_model.specs.Capture.{most_bytes};
-ghost use Rattle.play_base.specs.View.{Everything, Keeps, NoneAppears, SameCounts};
-ghost use Rattle.arrivals_front.specs.Given.{Follows, IsCutShort, IsRefused, conversion_fault, is_pcapng, read_fault};
-ghost use Rattle.arrivals_front.specs.Taking.{IsRestOf};
+ghost use Rattle.play_base.specs.View.{SameCounts};
+ghost use Rattle.arrivals_front.specs.Given.{Follows, IsBegunAt, IsCutShort, IsRefused, conversion_fault, is_pcapng, read_fault};
+ghost use Rattle.arrivals_front.specs.Taking.{IsRestOf, TookSome};
 
 use crate::taking::take_to;
 use pcapng_files::{NgFault, NgPlace, convert};
@@ -74,9 +74,7 @@ fn whole_file<F: Files>(files: &mut F, file: u32, taken: &mut Vec<u8>) -> Result
     ensures whole { OnOk result (IsRestOf (F.view files.old) (F.view files.new) file taken.old.items taken.new.items) }
     ensures short { OnOk result (length taken.new.items ≤ most_bytes) }
     ensures cut { IfErr result (IsCutShort (F.view files.old) (F.view files.new) file taken.old.items) }
-    ensures keeps { Keeps Everything (λ f. f ≢ file) (F.view files.old) (F.view files.new) }
-    ensures none { NoneAppears (F.view files.old) (F.view files.new) }
-    ensures said { (F.view files.new).said ≡ (F.view files.old).said }
+    ensures took { TookSome (F.view files.old) (F.view files.new) file }
     ensures no_fault { OnOk result (SameCounts (F.view files.old) (F.view files.new)) }
 {
     match take_to(files, file, taken, MOST + 1) {
@@ -90,7 +88,7 @@ fn whole_file<F: Files>(files: &mut F, file: u32, taken: &mut Vec<u8>) -> Result
 }
 
 /// Takes the first four bytes of the arrivals, in a loop, since a read may give one. Where they are those of a pcapng file, all of it is
-/// taken, and what is played of it is the classic capture of its packets. Everything other file is played as it stands, and no more than
+/// taken, and what is played of it is the classic capture of its packets. Every other file is played as it stands, and no more than
 /// four bytes of it are taken. `At` and `Limit` come only of a pcapng file, exactly where it has no such capture. `Read` comes only
 /// where the count of read faults of the file's part rose. One pass; a pcapng file takes memory for at most twice its bytes, and what
 /// `convert` takes for the interfaces of a section.
@@ -102,11 +100,10 @@ pub fn given_arrivals<F: Files>(
 ) -> Result<Given, GivenFault>
     requires there { IsSome ((F.view files.old).part file) }
     ensures given { IfOk result (λ g. (given : List ℕ) → (F.view files.old).left file ≡ Some given → Follows (F.view files.new) file given g) }
+    ensures begun { IfOk result (λ g. (given : List ℕ) → (F.view files.old).left file ≡ Some given → IsBegunAt (F.view files.new) file given) }
     ensures few { IfOk result (λ g. g.rest ≡ true → length g.front.items ≤ 4) }
     ensures refused { IfErr result (IsRefused (F.view files.old) (F.view files.new) file) }
-    ensures keeps { Keeps Everything (λ f. f ≢ file) (F.view files.old) (F.view files.new) }
-    ensures none { NoneAppears (F.view files.old) (F.view files.new) }
-    ensures said { (F.view files.new).said ≡ (F.view files.old).said }
+    ensures took { TookSome (F.view files.old) (F.view files.new) file }
     ensures no_fault { OnOk result (SameCounts (F.view files.old) (F.view files.new)) }
 {
     let mut taken = Vec::new(alloc);

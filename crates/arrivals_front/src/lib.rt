@@ -6,3 +6,4 @@ mod given;
 mod taking;
 
 pub use given::{Given, GivenFault, given_arrivals};
+pub use taking::take_to;

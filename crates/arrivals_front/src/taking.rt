@@ -1,15 +1,16 @@
 // Taking bytes of a file to the end of those that were taken before.
-ghost use Rattle.std.specs.Prelude.{◌≡◌, ◌≢◌, ◌⊎◌, ◌≤◌, ℕ, length, IsSome, OnOk, IsErrOf};
-ghost use Rattle.play_base.specs.View.{Everything, IsAtEnd, Keeps, NoneAppears, ReadFault, SameCounts};
-ghost use Rattle.arrivals_front.specs.Taking.{Gained};
+ghost use Rattle.std.specs.Prelude.{◌≡◌, ◌⊎◌, ◌≤◌, length, IsSome, OnOk, IsErrOf};
+ghost use Rattle.play_base.specs.View.{IsAtEnd, ReadFault, SameCounts};
+ghost use Rattle.arrivals_front.specs.Taking.{Gained, TookUpTo};
 
 use play_base::{Files, Trouble};
 
 /// The most bytes of one read.
 const PIECE: usize = 65_536;
 
-/// Takes bytes of the file to the end of `taken`, until there are `wanted` or the file ends. `Failed` comes only where the count of
-/// read faults of the file's part rose. After an error `taken` ends with some of the bytes that were taken.
+/// Takes bytes of the file to the end of `taken`, until there are `wanted` or the file ends, and never more. `Failed` comes only where the
+/// count of read faults of the file's part rose. After an error `taken` ends with some of the bytes that were taken. One pass, by pieces of
+/// 65,536 bytes.
 #[tactic(auto, using(play_base::proofs::ViewLaws::same_trans, play_base::proofs::ViewLaws::same_refl))]
 pub fn take_to<F: Files>(
     files: &mut F,
@@ -23,9 +24,7 @@ pub fn take_to<F: Files>(
     ensures enough { OnOk result ((length taken.new.items ≡ wanted) ⊎ IsAtEnd (F.view files.new) file) }
     ensures most { length taken.new.items ≤ wanted }
     ensures failed { IsErrOf result Trouble.Failed → ReadFault (F.view files.old) (F.view files.new) file }
-    ensures keeps { Keeps Everything (λ f. f ≢ file) (F.view files.old) (F.view files.new) }
-    ensures none { NoneAppears (F.view files.old) (F.view files.new) }
-    ensures said { (F.view files.new).said ≡ (F.view files.old).said }
+    ensures took { TookUpTo (F.view files.old) (F.view files.new) file wanted }
     ensures no_fault { OnOk result (SameCounts (F.view files.old) (F.view files.new)) }
 {
     let mut piece = [0u8; PIECE];

@@ -2,13 +2,12 @@
 
 ghost use Rattle.std.specs.Prelude.{◌≡◌, ◌≤◌, ◌<◌, ◌^◌, [], ℕ, List, IfOk, IfSome, length};
 ghost use Rattle.altq_model.specs.Lawful.{IsOneOf};
-ghost use Rattle.command_base.specs.Configuration.{IsConfigured};
 ghost use Rattle.conf_tree.specs.declared.interface.Kind.TheVariants as kind;
 ghost use Rattle.discipline.specs.Laws.{HasRate};
 ghost use Rattle.frame_classes.specs.Frames.{place_in};
+ghost use Rattle.interface_play.specs.Setup.{IsConfigured};
 
 use crate::sendings::play_until;
-use command_base::{ConfigFault, read_conf};
 use conf_laws::configurations_fit;
 use conf_tree::{Interface, Kind};
 use discipline::{Classify, Discipline, Pick, Rule};
@@ -19,6 +18,7 @@ use link_clock::LinkClock;
 use memory_files::MemoryFiles;
 use pcap_files::CaptureFault;
 use play_base::{Files, NoMemory, Trouble};
+use run_inputs::{Asking, Unready, found, read_configuration};
 use std::alloc::Global;
 
 // The word of a rule.
@@ -185,14 +185,17 @@ pub fn next_at(
 ) -> Result<(), NoMemory>
     requires { moment < 2 ^ 63 }
 {
-    let conf = match read_conf(alloc, files, "conf") {
-        Ok(conf) => conf,
-        Err(ConfigFault::NoMemory) => return Err(NoMemory),
-        Err(_) => return Ok(answer.push_str("refused")?),
+    let asking = Asking {
+        config: "conf",
+        interface: "if0",
+        next: None,
     };
-    let Some(interface) = conf.interface("if0") else {
-        return Ok(answer.push_str("refused")?);
+    let read = match read_configuration(alloc, files, &asking) {
+        Ok(read) => read,
+        Err(Unready::NoMemory) => return Err(NoMemory),
+        Err(Unready::Stop(_)) => return Ok(answer.push_str("refused")?),
     };
+    let interface = found(&read.conf, "if0");
     match records_in(alloc, files)? {
         Some(records) => tell_answer(alloc, interface, &records, moment, answer),
         None => Ok(answer.push_str("refused")?),

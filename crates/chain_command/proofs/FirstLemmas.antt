@@ -1,185 +1,167 @@
--- A chain that ends in its first play, or before.
-use Rattle.std.proofs.Common.{◌≡◌, ◌≢◌, ◌∙◌, ℕ, List, Ok, Err, ap, sym, refl, inl, inr}
-use Rattle.std.specs.Prelude.{IsTrue}
-use Rattle.conf_lines.specs.declared.fault.ConfPlace.{ConfPlace}
+-- The first play of a chain, of what its inputs give.
+use Rattle.std.proofs.Common.{◌≡◌, ◌∙◌, ℕ, Bool, true, false, cond, Option, List, [], ◌∷◌, None, Some, ap, sym, refl, subst, inl, inr}
+use Rattle.std.specs.Prelude.{IsTrue, option_map}
+use Rattle.std.specs.declared.result.Result.{Result}
+use Rattle.arrivals_front.specs.Given.{is_pcapng}
+use Rattle.arrivals_front.specs.declared.given.Given.{Given as FrontGiven}
+use Rattle.command_form.specs.Names.{Links}
+use Rattle.command_form.proofs.HadLaws.{given_of, inputs_of, ready_told}
 use Rattle.conf_tree.specs.declared.interface.Interface.{Interface}
-use Rattle.play_base.specs.View.{View}
-use Rattle.command_base.specs.Configuration.{Configures, Refused, Says, absent}
-use Rattle.command_base.specs.Faults.{IsQuiet}
-use Rattle.command_base.specs.Input.{ConfigCauses, EndsAtConfig}
-use Rattle.command_base.specs.Outcome.{IsOrMemory, Outcome, config_failure}
-use Rattle.command_base.specs.Telling.{OnlySays}
-use Rattle.command_base.specs.declared.done.Done.{Done}
-use Rattle.command_base.specs.declared.done.Done.TheVariants as done
-use Rattle.command_base.specs.declared.failure.Failure.{Failure}
-use Rattle.command_base.specs.declared.failure.Failure.TheVariants as failure
-use Rattle.command_base.specs.declared.fault.ConfigFault.{ConfigFault}
-use Rattle.command_base.specs.declared.fault.ConfigFault.TheVariants as conf
-use Rattle.command_base.specs.declared.link.Link.TheVariants as link
-use Rattle.command_base.specs.declared.link.LinkFault.TheVariants as fault
-use Rattle.command_base.specs.declared.parts.RunLimit.TheVariants as limit
-use Rattle.command_base.proofs.ConfLemmas.{config_not, is_memory, long_not, refused_not, told_long, told_place}
-use Rattle.command_base.proofs.SayingLemmas.{says_only}
-use Rattle.play_loop.specs.declared.fault.Limit.TheVariants as loop
-use Rattle.play_loop.specs.declared.fault.Output.TheVariants as output
-use Rattle.play_loop.specs.declared.fault.PlayFault.TheVariants as play
-use Rattle.play_command.specs.Ending.{PlayEnds, PlayFails, PlayIsTold, PlayLeaves}
-use Rattle.play_files.specs.Failing.{unplayed_failure}
-use Rattle.play_files.specs.declared.failing.Unplayed.{Unplayed}
-use Rattle.play_files.specs.declared.failing.Unplayed.TheVariants.{Pcapng, Play}
-use Rattle.play_command.proofs.BehindLemmas.{leaves_read}
-use Rattle.play_command.proofs.InputLemmas.{configures_by}
-use Rattle.play_command.proofs.WholeLemmas.{other_bytes}
-use Rattle.chain_command.specs.Chained.{passed_on}
-use Rattle.chain_command.specs.Chaining.{ChainEnds, ChainFails, ChainIsTold, NoneAbove, RefusesAt}
-use Rattle.chain_command.specs.Failing.{unplayed_first}
-use Rattle.chain_command.specs.Leaving.{IsAccepting}
-use Rattle.chain_command.specs.Links.{Links}
+use Rattle.file_plans.specs.Plan.{HasPart, number_of}
+use Rattle.interface_play.specs.declared.play.Play.{Play}
+use Rattle.interface_play.specs.Ended.{HasEnded, IsBehind, OnlyPlays}
+use Rattle.interface_play.specs.Setup.{Untold}
+use Rattle.interface_play.specs.Source.{IsSource, Places, Source, outputs_at, places_in}
+use Rattle.pcapng_files.specs.Fronts.{with_front}
+use Rattle.play_base.specs.View.{View, SameCounts}
+use Rattle.play_command.specs.Headline.{sole_of, source_by}
+use Rattle.play_core.specs.declared.totals.Totals.{Totals}
+use Rattle.play_loop.specs.declared.fault.PlayFault.{PlayFault}
+use Rattle.play_loop.specs.declared.kept.KeptFate.{KeptFate}
+use Rattle.play_words.specs.Words.{AreAllDistinct}
+use Rattle.run_inputs.specs.declared.inputs.Arrivals.{Arrivals}
+use Rattle.run_inputs.specs.declared.inputs.ReadConf.{ReadConf}
+use Rattle.run_inputs.specs.Had.{AreGivenBy, AreHad, HaveCome}
+use Rattle.run_inputs.specs.Says.{AreReady, Asked, Given, Inputs, interface_of}
+use Rattle.run_inputs.proofs.OneThing.{one_ready}
+use Rattle.chain_command.specs.Names.{IsGivenTwo, chain_command}
+use Rattle.chain_command.proofs.EndedLemmas.{Ended, ended_at}
+use Rattle.chain_command.proofs.NameLemmas.{inputs_at, names_in, not_part}
 
--- the text of the configuration is refused, or the first interface is not there
-config_fails : (u a : View) (n : Links) (seed : ℕ) (f : ConfigFault) → ConfigCauses u a n.first.config n.first.interface f → EndsAtConfig u a n.first.config
-    → ChainFails u a n seed (config_failure f)
-config_fails u a n seed (conf.At place) x s = (s, λ t. inl (x t))
-config_fails u a n seed conf.TooLong x s = (s, x)
-config_fails u a n seed conf.Read x s = (s, x)
-config_fails u a n seed conf.NoMemory x s = tt
+same_some : {A : Type 0} (x y : A) → Some x ≡ Some y → x ≡ y
+same_some x y h = cc
 
-config_told : (u a : View) (n : Links) (seed : ℕ) (f : ConfigFault) → ConfigCauses u a n.first.config n.first.interface f → IsTrue u.tells → IsQuiet u a
-    → ChainIsTold u n seed (Err (config_failure f))
-config_told u a n seed f x t q = record {
-  complete = λ p. no p.0.first.accepted.interface p.0.first.accepted.configuration _;
-  refused = λ place y. at place y;
-  long = λ y. told_long u a n.first.config n.first.interface f t q y x;
-  damaged = λ next d y p. no y.0 y.1 _;
-  limited = λ next y p. no y.0 y.1 _;
-  no_pcapng = λ next block y p. no y.0 y.1 _;
-  too_long = λ next y p. no y.0 y.1 _;
-  late = λ next y p. no y.0 y.1 _;
-  late_again = λ p. no p.0.first.accepted.interface p.0.first.accepted.configuration _;
-}
-  where
-    no : (i : Interface) → Configures u n.first.config n.first.interface i → (o : Outcome) → IsOrMemory (Err (config_failure f)) o
-    no i c o = is_memory (config_failure f) o (config_not u a n.first.config n.first.interface i f t q c x)
+next_is : (j : Interface) (c : Option Interface) → Some (Some j) ≡ option_map (λ (i : Interface). Some i) c → c ≡ Some j
+next_is j None h = absurd (cc)
+next_is j (Some i) h = cc
 
-    at : (place : ConfPlace) → RefusesAt u n place → IsOrMemory (Err (config_failure f)) (Err (failure.Configuration place))
-    at place (inl y) = told_place u a n.first.config n.first.interface place f t q y x
-    at place (inr y) = no y.0 y.1 _
+-- a chain: its files before it and once its inputs were had, what was read of them, and the interface of each play
+pub record Run : Type 0 where
+  pub before : View
+  pub ready : View
+  pub links : Links
+  pub conf : ReadConf
+  pub arrivals : Arrivals
+  pub found : Interface
+  pub next : Interface
+  pub seed : ℕ
 
-pub config_ends : (u a : View) (n : Links) (seed : ℕ) (f : ConfigFault) → ConfigCauses u a n.first.config n.first.interface f → EndsAtConfig u a n.first.config
-    → ChainEnds u a n seed (Err (config_failure f))
-config_ends u a n seed f x s = record {
-  comes = config_fails u a n seed f x s;
-  told = λ t q. config_told u a n seed f x t q;
-  leaves = record { nothing = λ t none m. s.keeps.bytes m tt; left = inl (leaves_read u a n.first seed s) };
-}
+-- the names of its first play
+abbrev pub asked_by : Run → Asked
+asked_by s = (chain_command s.links).asked
 
--- the configuration is the same where other bytes stand under the name of the departures
-pub passed_configures : (u : View) (n : Links) (sent : List ℕ) (i : Interface) → n.first.config ≢ n.first.departures
-    → Configures (passed_on u n sent) n.first.config n.next i → Configures u n.first.config n.next i
-passed_configures u n sent i d h =
-    configures_by (passed_on u n sent) u n.first.config n.next i (sym (other_bytes u n.first.departures sent n.first.config d)) h
+-- THE INPUTS ARE HAD, with both interfaces
+pub record Begins (s : Run) : Type 0 where
+  pub distinct : AreAllDistinct (names_in s.links)
+  pub come : HaveCome (asked_by s) s.before s.ready
+  pub had : AreHad (asked_by s) s.links.first.arrivals s.before s.ready s.conf s.arrivals
+  pub counts : SameCounts s.before s.ready
+  pub found : interface_of s.links.first.interface s.conf.conf ≡ Some s.found
+  pub next : interface_of s.links.next s.conf.conf ≡ Some s.next
 
--- the second is not there
-pub next_ends : (u a : View) (n : Links) (seed : ℕ) (found : Interface) → n.first.config ≢ n.first.departures
-    → (IsTrue u.tells → Configures u n.first.config n.first.interface found)
-    → (IsTrue u.tells → Says u n.first.config n.next (Refused absent)) → EndsAtConfig u a n.first.config
-    → ChainEnds u a n seed (Err (failure.Configuration absent))
-next_ends u a n seed found d first says s = record {
-  comes = (s, λ t. inr (found, first t, says t));
-  told = λ t q. record {
-    complete = λ p. absurd (refused_not u n.first.config n.next p.1.accepted.interface absent (passed_configures u n _ p.1.accepted.interface d p.1.accepted.configuration) (says t));
-    refused = λ place y. at t q place y;
-    long = λ y. absurd (long_not u n.first.config n.first.interface found (first t) y);
-    damaged = λ next damage y p. absurd (refused_not u n.first.config n.next next absent y.2 (says t));
-    limited = λ next y p. absurd (refused_not u n.first.config n.next next absent y.2 (says t));
-    no_pcapng = λ next block y p. absurd (refused_not u n.first.config n.next next absent y.2 (says t));
-    too_long = λ next y p. absurd (refused_not u n.first.config n.next next absent y.2 (says t));
-    late = λ next y p. absurd (refused_not u n.first.config n.next next absent y.2 (says t));
-    late_again = λ p. absurd (refused_not u n.first.config n.next p.1.accepted.interface absent (passed_configures u n _ p.1.accepted.interface d p.1.accepted.configuration) (says t));
-  };
-  leaves = record { nothing = λ t none m. s.keeps.bytes m tt; left = inl (leaves_read u a n.first seed s) };
-}
-  where
-    at : IsTrue u.tells → IsQuiet u a → (place : ConfPlace) → RefusesAt u n place
-        → IsOrMemory (Err (failure.Configuration absent)) (Err (failure.Configuration place))
-    at t q place (inl y) = absurd (refused_not u n.first.config n.first.interface found place (first t) y)
-    at t q place (inr y) = told_place u a n.first.config n.next place (conf.At absent) t q y.2 says
+module _ (s : Run) (b : Begins s) where
+  same_found : b.had.configured.found ≡ s.found
+  same_found = same_some _ _ (sym b.had.accepted.found ∙ b.found)
 
--- the words were accepted, but memory ran out while they were read
-pub chain_unread : (u w : View) (n : Links) (seed : ℕ) → OnlySays u w → ChainEnds u w n seed (Err failure.NoMemory)
-chain_unread u w n seed o = config_ends u w n seed conf.NoMemory tt (says_only u w n.first.config o)
+  same_next : b.had.configured.next ≡ Some s.next
+  same_next = next_is s.next b.had.configured.next (ap (λ (o : Option Interface). Some o) (sym b.next) ∙ b.had.accepted.next)
 
--- a failure of the first play, as the chain tells it
-abbrev pub on_first : Failure → Failure
-on_first (failure.Capture damage) = failure.OfLink link.First (fault.Capture damage)
-on_first (failure.Pcapng block) = failure.OfLink link.First (fault.Pcapng block)
-on_first (failure.Limit limit.Capture) = failure.OfLink link.First fault.Long
-on_first (failure.Limit limit.Clock) = failure.OfLink link.First fault.Clock
-on_first other = other
+  -- what is given, and what the first link plays of it
+  abbrev pub given_at : IsTrue s.before.tells → Given
+  given_at t = given_of s.before s.ready s.links.first.arrivals s.arrivals (b.had.given t)
 
-first_is : (f : Unplayed) → unplayed_first f ≡ on_first (unplayed_failure f)
-first_is (Pcapng block) = refl
-first_is (Play (play.Capture damage)) = refl
-first_is (Play play.Read) = refl
-first_is (Play (play.Write output.Departures)) = refl
-first_is (Play (play.Write output.Fates)) = refl
-first_is (Play (play.Write output.Statistics)) = refl
-first_is (Play (play.Limit loop.Capture)) = refl
-first_is (Play (play.Limit loop.Clock)) = refl
-first_is (Play play.NoMemory) = refl
+  abbrev pub source_first : IsTrue s.before.tells → Source
+  source_first t = source_by s.found (given_at t)
 
-same_failure : (f g : Failure) → ◌≡◌ {A = Outcome} (Err f) (Err g) → f ≡ g
-same_failure f g e = cc
+  abbrev pub OfFirstHad : (Source → Type 0) → Type 0
+  OfFirstHad P = (t : IsTrue s.before.tells) → P (source_first t)
 
-told_so : (f : Unplayed) (g : Failure) → IsOrMemory (Err (unplayed_failure f)) (Err g) → IsOrMemory (Err (unplayed_first f)) (Err (on_first g))
-told_so f g (inl e) = inl (ap {B = Outcome} (λ (x : Failure). Err x) (first_is f ∙ ap on_first (same_failure _ g e)))
-told_so f g (inr e) = inr (ap {B = Outcome} (λ (x : Failure). Err x) (first_is f ∙ ap on_first (same_failure _ failure.NoMemory e)))
+  abbrev inputs_had : IsTrue s.before.tells → Inputs
+  inputs_had t = inputs_of s.before s.ready s.links.first.arrivals s.arrivals b.had.configured (b.had.given t)
 
-not_done : (f : Failure) (d : Done) → ◌≡◌ {A = Outcome} (Err f) (Ok d) → ⊥
-not_done f d e = cc
+  ready_had : (t : IsTrue s.before.tells) → AreReady s.before (asked_by s) (inputs_had t)
+  ready_had t = ready_told s.before s.ready (asked_by s) s.links.first.arrivals s.conf s.arrivals refl b.had t
 
-starved : (f : Unplayed) (o : Outcome) → IsOrMemory (Err (unplayed_failure f)) (Ok done.Played) → IsOrMemory (Err (unplayed_first f)) o
-starved f o (inl e) = absurd (not_done (unplayed_failure f) done.Played e)
-starved f o (inr e) = inr (ap {B = Outcome} (λ (x : Failure). Err x) (first_is f ∙ ap on_first (same_failure _ failure.NoMemory e)))
+  -- what holds of both interfaces and of what is given holds of the inputs, and the other way
+  pub is_two : (P : Interface → Interface → Given → Type 0) → (t : IsTrue s.before.tells) → P s.found s.next (given_at t) → IsGivenTwo s.before s.links P
+  is_two P t p = record {
+    inputs = inputs_had t;
+    ready = ready_had t;
+    next = s.next;
+    is_next = same_next;
+    given = given_at t;
+    is_given = refl;
+    holds = let Q : Interface → Type 0 = λ k. P k s.next (given_at t) in subst Q (sym same_found) p;
+  }
 
-none_above : (u c : View) (n : Links) (seed : ℕ) → PlayLeaves u c n.first seed → NoneAbove 5 u c
-none_above u c n seed h = λ f p fresh e. h.files.order.no_more f p fresh e
+  pub of_two : (P : Interface → Interface → Given → Type 0) → (t : IsTrue s.before.tells) → IsGivenTwo s.before s.links P → P s.found s.next (given_at t)
+  of_two P t y =
+      let same : y.inputs ≡ inputs_had t = one_ready s.before (asked_by s) y.inputs (inputs_had t) y.ready (ready_had t) in
+      let g : y.given ≡ given_at t = same_some _ _ (sym y.is_given ∙ ap (λ (o : Inputs). o.given) same) in
+      let k : y.next ≡ s.next = same_some _ _ (sym y.is_next ∙ ap (λ (o : Inputs). o.configured.next) same ∙ same_next) in
+      let f : y.inputs.configured.found ≡ s.found = ap (λ (o : Inputs). o.configured.found) same ∙ same_found in
+      let Q : Interface → Type 0 = λ m. P m s.next (given_at t) in
+      let R : Interface → Type 0 = λ m. P y.inputs.configured.found m (given_at t) in
+      let S : Given → Type 0 = λ m. P y.inputs.configured.found y.next m in
+      subst Q f (subst R k (subst S g y.holds))
 
-fails : (u c : View) (n : Links) (seed : ℕ) (f : Unplayed) → IsAccepting u n → NoneAbove 5 u c → PlayFails u c n.first seed (unplayed_failure f)
-    → ChainFails u c n seed (unplayed_first f)
-fails u c n seed (Pcapng block) a h x = (a, h, x)
-fails u c n seed (Play (play.Capture damage)) a h x = (a, h, x)
-fails u c n seed (Play play.Read) a h x = (a, h, x)
-fails u c n seed (Play (play.Write output.Departures)) a h x = (a, h, x)
-fails u c n seed (Play (play.Write output.Fates)) a h x = (a, h, x)
-fails u c n seed (Play (play.Write output.Statistics)) a h x = (a, h, x)
-fails u c n seed (Play (play.Limit loop.Capture)) a h x = (a, h, x)
-fails u c n seed (Play (play.Limit loop.Clock)) a h x = (a, h, x)
-fails u c n seed (Play play.NoMemory) a h x = tt
+  -- the play of what is given
+  pub record IsFirst (p : Play) : Type 0 where
+    pub interface : s.found ≡ p.interface.now
+    pub given : p.given.now ≡ s.arrivals.given
+    pub file : p.file ≡ s.arrivals.file
+    pub seed : p.seed ≡ s.seed
+    pub places : places_in p ≡ sole_of s.links.first
 
-told : (u : View) (n : Links) (seed : ℕ) (f : Unplayed) → IsAccepting u n → IsTrue u.tells → PlayIsTold u n.first seed (Err (unplayed_failure f))
-    → ChainIsTold u n seed (Err (unplayed_first f))
-told u n seed f a t h = record {
-  complete = λ p. starved f _ (h.complete p.0.first);
-  refused = λ place y. refused place y;
-  long = λ y. told_so f (failure.Limit limit.Configuration) (h.long y);
-  damaged = λ next d y p. told_so f (failure.Capture d) (h.damaged d p);
-  limited = λ next y p. told_so f (failure.Limit limit.Capture) (h.limited p);
-  no_pcapng = λ next block y p. told_so f (failure.Pcapng block) (h.no_pcapng block p);
-  too_long = λ next y p. told_so f (failure.Limit limit.Capture) (h.too_long p);
-  late = λ next y p. told_so f (failure.Limit limit.Clock) (h.late p);
-  late_again = λ p. starved f _ (h.complete p.0.first);
-}
-  where
-    refused : (place : ConfPlace) → RefusesAt u n place → IsOrMemory (Err (unplayed_first f)) (Err (failure.Configuration place))
-    refused place (inl y) = told_so f (failure.Configuration place) (h.refused place y)
-    refused place (inr y) = absurd (refused_not u n.first.config n.next a.1 place (a.3 t) y.2)
+  no_both : (k : ℕ) → HasPart (outputs_at (sole_of s.links.first)) k → HasPart (inputs_at s.links) k → ⊥
+  no_both k (inl e) h = not_part (inputs_at s.links) 3 refl (subst (HasPart (inputs_at s.links)) e h)
+  no_both k (inr (inl e)) h = not_part (inputs_at s.links) 4 refl (subst (HasPart (inputs_at s.links)) e h)
+  no_both k (inr (inr (inl e))) h = not_part (inputs_at s.links) 5 refl (subst (HasPart (inputs_at s.links)) e h)
+  no_both k (inr (inr (inr e))) h = e
 
--- the first play fails, and the chain with it
-pub first_ends : (u c : View) (n : Links) (seed : ℕ) (f : Unplayed) → IsAccepting u n → PlayEnds u c n.first seed (Err (unplayed_failure f))
-    → ChainEnds u c n seed (Err (unplayed_first f))
-first_ends u c n seed f a h = record {
-  comes = fails u c n seed f a (none_above u c n seed h.leaves) h.comes;
-  told = λ t q. told u n seed f a t (h.told t q);
-  leaves = record { nothing = λ t none. absurd (none a.1 (a.0, a.2 t, a.3 t)); left = inl h.leaves };
-}
+  abbrev pub input_files : List ℕ
+  input_files = s.conf.file ∷ s.arrivals.file ∷ []
+
+  pub first_behind : (p : Play) → IsFirst p → IsBehind s.before s.ready (inputs_at s.links) input_files p
+  first_behind p f = record {
+    came = b.had.came;
+    among = inr (inl f.file);
+    counts = b.counts;
+    parts = λ e h k. let P : Places → Type 0 = λ w. HasPart (outputs_at w) (number_of e) in no_both (number_of e) (subst P f.places h) k;
+    departures = λ t. (tt, (tt, tt));
+    fates = λ t. (tt, (tt, tt));
+    stats = λ t. (tt, (tt, tt));
+  }
+
+  in_memory : (g : Bool) (rest : Bool) → (rest ≡ true → g ≡ false) → (rest ≡ false → g ≡ true) → g ≡ cond rest false true
+  in_memory g true c p = c refl
+  in_memory g false c p = p refl
+
+  first_is : (p : Play) → IsFirst p → (t : IsTrue s.before.tells) → IsSource s.ready p (source_first t)
+  first_is p f t = record {
+    interface = f.interface;
+    in_memory = subst P (sym f.given) (in_memory (is_pcapng g.given) s.arrivals.given.rest (λ e. (g.follows.classic e).0) g.follows.pcapng);
+    capture = subst Q (sym f.given) (subst R (sym f.file) g.follows.left);
+  }
+    where
+      g : AreGivenBy s.before s.ready s.links.first.arrivals s.arrivals
+      g = b.had.given t
+
+      P : FrontGiven → Type 0
+      P y = is_pcapng g.given ≡ cond y.rest false true
+
+      Q : FrontGiven → Type 0
+      Q y = with_front true y.rest y.front.items (s.ready.left p.file) ≡ Some g.follows.bytes
+
+      R : ℕ → Type 0
+      R k = with_front true s.arrivals.given.rest s.arrivals.given.front.items (s.ready.left k) ≡ Some g.follows.bytes
+
+  -- SO IT ENDED, told of what is given
+  abbrev pub FirstEnded : (kept : List KeptFate → Type 0) (v : View) → Result Totals PlayFault → Type 0
+  FirstEnded kept v y = Ended OfFirstHad kept s.before s.ready v (sole_of s.links.first) s.seed s.arrivals.file (inputs_at s.links) input_files y
+
+  pub first_ended : (p : Play) (kept : List KeptFate → Type 0) (v : View) (y : Result Totals PlayFault) → IsFirst p
+      → HasEnded Untold kept s.before s.ready v (inputs_at s.links) input_files p y → OnlyPlays s.ready v p → FirstEnded kept v y
+  first_ended p kept v y f h o =
+      ended_at OfFirstHad kept s.before s.ready v p (sole_of s.links.first) s.seed s.arrivals.file (inputs_at s.links) input_files y
+      (λ P of t. of (b.come.keeps.tells ∙ t) (source_first t) (first_is p f t)) f.places f.seed f.file h o

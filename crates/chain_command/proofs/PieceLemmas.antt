@@ -10,7 +10,7 @@ use Rattle.play_chain.specs.declared.outcome.Passage.{Passage}
 use Rattle.play_chain.specs.declared.path.Path.{Path}
 use Rattle.play_chain.specs.Stands.{bound, rows_to, text_of}
 use Rattle.play_chain.specs.Text.{path_header, path_row, rows_below}
-use Rattle.chain_command.specs.Playing.{WroteSome}
+use Rattle.chain_command.specs.Writing.{WroteSome}
 
 -- rows go on behind rows
 rows_on : (n d : ℕ) (f : ℕ → Option Passage) → (rest : List ℕ) × (rows_below (d + n) f ≡ rows_below n f ++ rest)

@@ -5,39 +5,37 @@ use Rattle.altq_model.specs.declared.Fate.{Fate}
 use Rattle.altq_model.specs.declared.Fate.TheVariants.{Dropped, Sent}
 use Rattle.altq_model.specs.declared.Rule.{Rule}
 use Rattle.altq_model.specs.History.{Decision, journal}
+use Rattle.conf_tree.specs.declared.interface.Interface.{Interface}
 use Rattle.play_base.specs.View.{View}
 use Rattle.play_chain.specs.Text.{path_text}
 use Rattle.play_loop.specs.KeptFates.{kept_fates}
 use Rattle.play_loop.specs.Setup.{arrivals_in, departures_of}
-use Rattle.command_base.specs.Names.{Names}
-use Rattle.play_command.specs.InterfaceSetup.{setup_of}
-use Rattle.play_command.specs.Played.{HasPlayed}
-use Rattle.play_command.specs.Supplied.{with_bytes}
-use Rattle.chain_command.specs.Links.{Links, second_names}
+use Rattle.run_inputs.specs.Says.{Given}
+use Rattle.command_form.specs.Names.{Links}
+use Rattle.interface_play.specs.Played.{WasPlayed}
+use Rattle.interface_play.specs.Setup.{setup_of}
+use Rattle.interface_play.specs.Source.{Places, Source}
+use Rattle.play_command.specs.Headline.{sole_of, source_by}
+use Rattle.chain_command.specs.Names.{seconds_of, sent_source}
 
 -- the arrivals and the journal of a play, and what it sent as a capture
-abbrev pub arrivals_of : {old new : View} {n : Names} {seed : ℕ} → HasPlayed old new n seed → List Captured
-arrivals_of {old} {new} {n} {seed} h = arrivals_in (setup_of h.accepted.interface seed) h.played.records
+abbrev pub arrivals_of : {v : View} {w : Places} {seed : ℕ} {s : Source} → WasPlayed v w seed s → List Captured
+arrivals_of {v} {w} {seed} {s} h = arrivals_in (setup_of s.interface seed) h.records
 
-abbrev pub journal_of : {old new : View} {n : Names} {seed : ℕ} → HasPlayed old new n seed → List Decision
-journal_of h = journal h.played.history
+abbrev pub journal_of : {v : View} {w : Places} {seed : ℕ} {s : Source} → WasPlayed v w seed s → List Decision
+journal_of h = journal h.history
 
-abbrev pub sent_by : {old new : View} {n : Names} {seed : ℕ} → HasPlayed old new n seed → List ℕ
-sent_by {old} {new} {n} {seed} h = departures_of (setup_of h.accepted.interface seed) (arrivals_of h) h.played.history
+abbrev pub sent_by : {v : View} {w : Places} {seed : ℕ} {s : Source} → WasPlayed v w seed s → List ℕ
+sent_by {v} {w} {seed} {s} h = departures_of (setup_of s.interface seed) (arrivals_of h) h.history
 
--- the files as they would be, if these bytes had stood under the name of the first departures
-abbrev pub passed_on : View → Links → (sent : List ℕ) → View
-passed_on v n sent = with_bytes v n.first.departures sent
-
--- Both plays are whole. The first keeps the headline on the first interface. The second keeps it on the second interface, with the
--- words of the same seed from their beginning, as if the capture of what the first sent had stood under the name of its departures:
--- that is read, and marked where the interface has conditioners.
-pub record ArePlayed (old new : View) (n : Links) (seed : ℕ) : Type 0 where
-  pub first : HasPlayed old new n.first seed
-  pub second : HasPlayed (passed_on old n (sent_by first)) new (second_names n) seed
+-- BOTH PLAYS ARE WHOLE: the first of what is given, on the first interface; the second of what the first sent, on the next one, with the
+-- words of the same seed from their beginning
+pub record ArePlayed (v : View) (n : Links) (seed : ℕ) (i j : Interface) (g : Given) : Type 0 where
+  pub first : WasPlayed v (sole_of n.first) seed (source_by i g)
+  pub second : WasPlayed v (seconds_of n) seed (sent_source j (sent_by first))
 
 -- the text of the paths of their packets
-abbrev pub paths_of : {old new : View} {n : Links} {seed : ℕ} → ArePlayed old new n seed → List ℕ
+abbrev pub paths_of : {v : View} {n : Links} {seed : ℕ} {i j : Interface} {g : Given} → ArePlayed v n seed i j g → List ℕ
 paths_of p = path_text (kept_fates (arrivals_of p.first) (journal_of p.first)) (journal_of p.second)
 
 -- the ends of a journal's sendings, in its order: the k-th is that of packet k of the second play
@@ -58,10 +56,10 @@ abbrev pub StartsAfterFirst : (first second : List Decision) → Type 0
 StartsAfterFirst first second = (k end start later : ℕ) (rule : Rule) → slice_get (ends_of first) (k - 1) ≡ Some end
     → Contains second (k, Sent start later rule) → end ≤ start
 
--- TWO LINKS IN A ROW. Both plays are whole, each with its own headline. No arrival of the second is later than its stamp, and each
--- packet starts on the second link at its end on the first, or later. The paths are those of both journals.
-pub record HasChained (old new : View) (n : Links) (seed : ℕ) : Type 0 where
-  pub played : ArePlayed old new n seed
+-- TWO LINKS IN A ROW. Both plays are whole. No arrival of the second is later than its stamp, and each packet starts on the second link at
+-- its end on the first, or later. The paths are those of both journals.
+pub record HasChained (v : View) (n : Links) (seed : ℕ) (i j : Interface) (g : Given) : Type 0 where
+  pub played : ArePlayed v n seed i j g
   pub unraised : NoneRaised (arrivals_of played.second)
   pub after : StartsAfterFirst (journal_of played.first) (journal_of played.second)
-  pub path : new.bytes n.path ≡ Some (paths_of played)
+  pub path : v.bytes n.path ≡ Some (paths_of played)

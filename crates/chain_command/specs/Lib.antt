@@ -1,10 +1,4 @@
 pub mod Chained
 pub mod Chaining
-pub mod Failing
-pub mod Leaving
-pub mod Links
-pub mod Playing
-pub use Rattle.command_base.specs.Names
-pub use Rattle.play_command.specs.Ending
-pub use Rattle.play_command.specs.Played
-pub use Rattle.second_files.specs.Parts
+pub mod Names
+pub mod Writing

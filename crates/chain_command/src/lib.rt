@@ -2,8 +2,6 @@
 #![tactic(auto)]
 
 mod chaining;
-mod failing;
-mod links;
 mod paths;
 
 pub use chaining::chain;

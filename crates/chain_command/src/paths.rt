@@ -1,11 +1,15 @@
 // Writing what became of each packet.
 ghost use Rattle.std.specs.Prelude.{◌≡◌, [], ℕ, Some, IsErrOf, IsSome, IsTrue, OnOk, OnErr};
+ghost use Rattle.file_plans.specs.Parts.{part_number};
+ghost use Rattle.file_plans.specs.Plan.{place_of, written_place};
+ghost use Rattle.file_plans.specs.declared.part.Part.TheVariants as part;
 ghost use Rattle.play_base.specs.View.{Rose, SameCounts, WriteFault, Wrote};
 ghost use Rattle.play_chain.specs.Stands.{text_of};
 ghost use Rattle.play_chain.specs.Tables.{text_in};
-ghost use Rattle.chain_command.specs.Playing.{AddsFile, WroteSome};
+ghost use Rattle.run_outcomes.specs.Faults.{WriteFailed};
+ghost use Rattle.chain_command.specs.Writing.{AddsFile, WroteSome};
 
-use command_base::part;
+use file_plans::{Entry, Part, Way, open_next};
 use play_base::{Files, NoMemory, Trouble, write_all};
 use play_chain::{Firsts, Path, Seconds, path_header};
 use std::alloc::Global;
@@ -48,15 +52,20 @@ pub fn write_paths<F: Files>(
     seconds: Seconds,
 ) -> Result<(), Trouble>
     ensures whole { OnOk result (IsTrue (F.view files.old).tells → (F.view files.new).bytes name.now ≡ Some (text_in firsts seconds)) }
-    ensures adds { AddsFile (F.view files.old) (F.view files.new) 10 name.now (text_in firsts seconds) }
-    ensures failed { IsErrOf result Trouble.Failed → Rose ((F.view files.old).write_faults 10) ((F.view files.new).write_faults 10) }
+    ensures adds { AddsFile (F.view files.old) (F.view files.new) (written_place part.Path name.now) (text_in firsts seconds) }
+    ensures failed { IsErrOf result Trouble.Failed → WriteFailed (F.view files.old) (F.view files.new) (part_number part.Path) }
     ensures no_fault { OnOk result (SameCounts (F.view files.old) (F.view files.new)) }
 {
     let path = match Path::through(alloc, firsts, seconds) {
         Ok(path) => path,
         Err(NoMemory) => return Err(Trouble::NoMemory),
     };
-    let file = match files.create(part::PATH, name) {
+    let entry = Entry {
+        part: Part::Path,
+        name,
+        way: Way::Written,
+    };
+    let file = match open_next(files, &entry) {
         Ok(file) => file,
         Err(trouble) => return Err(trouble),
     };

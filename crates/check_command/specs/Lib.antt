@@ -1,2 +1,1 @@
 pub mod Checking
-pub use Rattle.command_base.specs.Configuration

@@ -1,238 +1,446 @@
 -- How a marking ends, once the marked file was created.
-use Rattle.std.proofs.Common.{◌≡◌, ◌≤◌, ◌+◌, ◌∙◌, ap, inl, inr, ℕ, Bool, true, false, List, [], ◌++◌, length, length-append, Some, Ok, Err, sym, subst, refl, arith}
-use Rattle.std.specs.Prelude.{IsSome, IsTrue, if◌then◌else◌, ⊤}
+use Rattle.std.proofs.Common.{◌≡◌, ◌≢◌, ◌≤◌, ◌+◌, ◌∙◌, ◌⊎◌, ap, inl, inr, ℕ, Bool, true, false, List, [], ◌∷◌, ◌++◌, length, length-append, None, Some, Ok, Err, sym, subst, refl, arith}
+use Rattle.std.specs.Prelude.{Option, IsTrue, if◌then◌else◌, ⊤}
 use Rattle.std.specs.declared.result.Result.{Result}
-use Rattle.arrivals_front.specs.Given.{Follows, ReadAs, is_pcapng}
-use Rattle.arrivals_front.specs.declared.given.Given.{Given}
-use Rattle.arrivals_front.proofs.ReadLaws.{read_one_way}
-use Rattle.capture_model.specs.Capture.{Fault, Limit, Step}
+use Rattle.arrivals_front.specs.Given.{is_pcapng}
+use Rattle.arrivals_source.specs.Counted.{IsNoLonger}
+use Rattle.capture_model.specs.Capture.{End, Fault, IsLast, Limit, Next, Step}
 use Rattle.conf_tree.specs.declared.interface.Interface.{Interface}
+use Rattle.file_plans.specs.declared.part.Part.TheVariants as part
+use Rattle.file_plans.specs.Came.{Came, IsAmong, IsOf, Works}
+use Rattle.file_plans.specs.End.{FilesEnd, TookFew, Untouched}
+use Rattle.file_plans.specs.Plan.{HasPart, IsOther, Place, written_place}
+use Rattle.file_plans.proofs.CameLaws.{came_more, came_works, same_part, there_or_not}
+use Rattle.file_plans.proofs.EndLaws.{came_all, files_end}
+use Rattle.file_plans.proofs.FewLaws.{few_kept}
 use Rattle.frame_classes.specs.Frames.{Classes}
 use Rattle.interface_marks.specs.Conditioners.{Begins, conditioning_of, marked_in}
 use Rattle.marked_files.specs.Markings.{Marking}
 use Rattle.marked_files.specs.Standing.{AreWhole}
+use Rattle.pcap_files.proofs.ReadingLaws.{one_reading}
 use Rattle.pcapng_files.specs.Fronts.{with_front}
-use Rattle.play_base.specs.View.{View, ReadFault, SameCounts, WriteFault}
-use Rattle.play_base.proofs.ViewLaws.{rose_later}
+use Rattle.play_base.specs.View.{View, NotNamed, OtherThan, ReadFault, Rose, SameCounts, Unchanged, WriteFault}
+use Rattle.play_base.proofs.ViewLaws.{keeps_fewer, rose_later}
 use Rattle.play_words.specs.Words.{AreDistinctMarks}
-use Rattle.command_base.specs.Configuration.{Accepts}
-use Rattle.command_base.specs.declared.done.Done.TheVariants as done
-use Rattle.command_base.proofs.ConfLemmas.{one_interface, some_bytes}
-use Rattle.condition_command.specs.Conditioning.{Arrive, ConditionComes, ConditionEnds, ConditionFails, ConditionLeaves, HasInterface, IsCutShort, IsStopped, MarkNames, TookWithin}
-use Rattle.condition_command.specs.Marking.{CameOf, Marks, unmarked_failure}
+use Rattle.run_inputs.specs.declared.inputs.Arrivals.{Arrivals}
+use Rattle.run_inputs.specs.declared.inputs.ReadConf.{ReadConf}
+use Rattle.run_inputs.specs.declared.inputs.Unready.{Unready}
+use Rattle.run_inputs.specs.Had.{HaveCome, IsUnready}
+use Rattle.run_inputs.specs.Says.{AreReady, Given, Inputs}
+use Rattle.run_outcomes.specs.declared.outcome.CaptureStop.TheVariants as capture
+use Rattle.run_outcomes.specs.declared.outcome.Done.TheVariants as done
+use Rattle.run_outcomes.specs.declared.outcome.Failure.{Failure}
+use Rattle.run_outcomes.specs.declared.outcome.Failure.TheVariants as failure
+use Rattle.run_outcomes.specs.declared.outcome.Link.TheVariants as link
+use Rattle.run_outcomes.specs.Faults.{IsQuiet}
+use Rattle.run_outcomes.specs.Outcome.{IsOr, Outcome}
+use Rattle.command_form.specs.Form.{InputsFirst, unready_failure}
+use Rattle.command_form.specs.Given.{IsGiven}
+use Rattle.command_form.specs.Names.{MarkNames}
+use Rattle.command_form.proofs.EndsLaws.{done_ends, memory_ends, own_ends, unready_ends}
+use Rattle.command_form.proofs.FirstLaws.{KeepsInputs}
+use Rattle.command_form.proofs.HadLaws.{given_of, is_given, of_given}
+use Rattle.condition_command.specs.Conditioning.{ConditionDone, ConditionEnds, ConditionExpected, ConditionLeaves, ConditionOwn, HasConditioned, HasFront, HasReading, IsCutShort, IsStopped, ReadsTo, Streams, TookWithin, condition_command}
+use Rattle.condition_command.specs.Marking.{CameOf, Marks, Stays, unmarked_failure}
+use Rattle.condition_command.specs.Starting.{HasInputs}
 use Rattle.condition_command.specs.declared.marking.Unmarked.{Unmarked}
 use Rattle.condition_command.specs.declared.marking.Unmarked.TheVariants as unmarked
-use Rattle.condition_command.proofs.LeaveLemmas.{IsMarking, Way, leaves_marking, marking_named, tells_at}
-use Rattle.condition_command.proofs.TellLemmas.{told}
+use Rattle.condition_command.proofs.InputLemmas.{arrivals_of, condition_reads, conf_of, inputs_first, inputs_two, is_arrivals, is_conf, ready, uncreated_files, uncreated_first, uncreated_leaves}
 
--- the interface asked for is this one, and the arrivals begin so
-pub record IsAsked (u v : View) (n : MarkNames) (found : Interface) (from : ℕ) (g : Given) : Type 0 where
-  pub accepts : Accepts u n.config n.interface found
-  pub there : IsTrue u.tells → IsSome (u.bytes n.arrivals)
-  pub follows : IsTrue u.tells → (given : List ℕ) → u.bytes n.arrivals ≡ Some given → Follows v from given g
+-- WHAT MUST COME: what the reading of the capture ends with
+abbrev pub end_outcome : Step → Outcome
+end_outcome End = Ok done.Done
+end_outcome (Next r after) = Err failure.NoMemory
+end_outcome (Fault d) = Err (failure.Capture link.Sole (capture.Damage d))
+end_outcome Limit = Err (failure.Capture link.Sole capture.TooLong)
 
--- a marking: its way, the interface asked for, how the arrivals begin, and the marker
-pub record Run : Type 0 where
-  pub way : Way
-  pub found : Interface
-  pub given : Given
-  pub marker : Marking Classes
+record IsEnd (u : View) (n : MarkNames) (p : Outcome) : Type 0 where
+  pub step : Step
+  pub last : IsLast step
+  pub reads : ReadsTo u n step
+  pub same : p ≡ end_outcome step
 
--- and what the marker made of them
-pub record HasRun (s : Run) (r : Result ⊤ Unmarked) : Type 0 where
-  pub marking : IsMarking s.way
-  pub asked : IsAsked s.way.old s.way.opened s.way.names s.found s.way.from s.given
-  pub distinct : AreDistinctMarks s.way.names.config s.way.names.arrivals s.way.names.marked
-  pub begins : Begins s.found (if s.given.rest then s.given.front.items else []) s.marker
-  pub marks : Marks s.way.created s.way.new s.way.from s.way.to s.given.rest s.given.front.items s.marker r
+is_end : (u : View) (n : MarkNames) (p : Outcome) → ConditionExpected u n p → IsEnd u n p
+is_end u n (Ok done.Done) x = record { step = End; last = tt; reads = x; same = refl }
+is_end u n (Ok done.Exceeds) x = absurd x
+is_end u n (Err (failure.Capture link.Sole (capture.Damage d))) x = record { step = Fault d; last = tt; reads = x; same = refl }
+is_end u n (Err (failure.Capture link.Sole (capture.Block b))) x = absurd x
+is_end u n (Err (failure.Capture link.Sole capture.TooLong)) x = record { step = Limit; last = tt; reads = x; same = refl }
+is_end u n (Err (failure.Capture link.Sole capture.Late)) x = absurd x
+is_end u n (Err (failure.Capture link.First c)) x = absurd x
+is_end u n (Err (failure.Capture link.Second c)) x = absurd x
+is_end u n (Err (failure.Words f)) x = absurd x
+is_end u n (Err (failure.Configuration f)) x = absurd x
+is_end u n (Err (failure.Read p)) x = absurd x
+is_end u n (Err (failure.Write p)) x = absurd x
+is_end u n (Err failure.Unsaid) x = absurd x
+is_end u n (Err (failure.TooLong p)) x = absurd x
+is_end u n (Err (failure.Refuted row _)) x = absurd x
+is_end u n (Err failure.NoMemory) x = absurd x
+
+-- it is of inputs that are ready
+pub expected_ready : (u : View) (n : MarkNames) (p : Outcome) → ConditionExpected u n p → (i : Inputs) × AreReady u (condition_command n).asked i
+expected_ready u n p x = let e = is_end u n p x in (e.reads.inputs, e.reads.ready)
+
+or_same : (o p : Outcome) → o ≡ p → IsOr o p
+or_same o (Ok d) e = inl (inl e)
+or_same o (Err f) e = inl e
+
+-- WHAT WAS DONE: the inputs were read, the marked file was created, and this came of the marking
+pub record HasRun (u v d e : View) (n : MarkNames) (r : ReadConf) (x : Arrivals) (to : ℕ) (m : Marking Classes) (y : Result ⊤ Unmarked) : Type 0 where
+  pub has : HasInputs u v n r x
+  pub created : Came (written_place part.Marked n.marked ∷ []) (to ∷ []) v d
+  pub empty : IsTrue v.tells → d.bytes n.marked ≡ Some []
+  pub said : d.said ≡ v.said
+  pub stays : Stays d e x.file to
+  pub shrinks : IsNoLonger d e x.file
+  pub begins : Begins has.had.configured.found (if x.given.rest then x.given.front.items else []) m
+  pub marks : Marks d e x.file to x.given.rest x.given.front.items m y
+  pub distinct : AreDistinctMarks n.config n.arrivals n.marked
+
+-- faults that were met
+pub record Faults (d e : View) (from to : ℕ) (rest : Bool) (why : Unmarked) : Type 0 where
+  pub read : why ≡ unmarked.Read → (rest ≡ true) × ReadFault d e from
+  pub write : why ≡ unmarked.Write → WriteFault d e to
 
 -- what the marked file holds of the capture
-pub record Wrote (w : Way) (found : Interface) (capture : List ℕ) (rest : Bool) (r : Result ⊤ Unmarked) : Type 0 where
+pub record Wrote (e : View) (n : MarkNames) (from : ℕ) (i : Interface) (capture : List ℕ) (rest : Bool) (y : Result ⊤ Unmarked) : Type 0 where
   pub written : List ℕ
-  pub at : w.new.bytes w.names.marked ≡ Some written
-  pub front : (tail : List ℕ) × (marked_in found capture ≡ written ++ tail)
+  pub at : e.bytes n.marked ≡ Some written
+  pub front : (tail : List ℕ) × (marked_in i capture ≡ written ++ tail)
   pub taken : List ℕ
   pub left : List ℕ
   pub split : capture ≡ taken ++ left
-  pub leaves : rest ≡ true → w.new.left w.from ≡ Some left
+  pub leaves : rest ≡ true → e.left from ≡ Some left
   pub few : length taken ≤ length written + 262160
-  pub came : CameOf (conditioning_of found) capture taken written r
+  pub came : CameOf (conditioning_of i) capture taken written y
 
--- what is left when the marked file is created
-left_there : (s : Run) (r : Result ⊤ Unmarked) → HasRun s r → IsTrue s.way.old.tells → s.way.created.left s.way.from ≡ s.way.opened.left s.way.from
-left_there s r x t =
-    let a = x.marking.arrivals in
-    x.marking.created.keeps.left s.way.from 2 a.part (λ e. x.distinct.arrivals_marked (sym (a.named t) ∙ e))
-
-wrote_of : (s : Run) (r : Result ⊤ Unmarked) → HasRun s r → IsTrue s.way.old.tells → (given capture : List ℕ)
-    → s.way.old.bytes s.way.names.arrivals ≡ Some given → ReadAs given capture → Wrote s.way s.found capture s.given.rest r
-wrote_of s r x t given capture at read =
-    let d = s.way.created in
-    let m = x.marking in
-    let f = x.asked.follows t given at in
-    let same : f.bytes ≡ capture = read_one_way given f.bytes capture f.read read in
-    let shown : with_front true s.given.rest s.given.front.items (d.left s.way.from) ≡ Some capture =
-    ap (λ o. with_front true s.given.rest s.given.front.items o) (left_there s r x t) ∙ f.left ∙ ap Some same in
-    let h = x.marks (tells_at s.way m t) (conditioning_of s.found) x.begins.stands capture shown in
-    let named : d.name s.way.to ≡ s.way.names.marked = marking_named s.way m t in
-    let empty : d.bytes (d.name s.way.to) ≡ Some [] = ap d.bytes named ∙ (m.created.empty (m.arrivals.reading.keeps.tells ∙ t)).0 in
-    record {
-      written = h.written;
-      at = ap s.way.new.bytes (sym named) ∙ h.grown [] empty;
-      front = h.front;
-      taken = h.taken;
-      left = h.left;
-      split = h.split;
-      leaves = h.leaves;
-      few = h.few;
-      came = h.came;
-    }
-
--- the same of the capture that arrives
-wrote_arrived : (s : Run) (r : Result ⊤ Unmarked) (other : Interface) (capture : List ℕ) → HasRun s r → IsTrue s.way.old.tells
-    → Arrive s.way.old s.way.names other capture → Wrote s.way other capture s.given.rest r
-wrote_arrived s r other capture x t a =
-    let n = s.way.names in
-    let same : s.found ≡ other = one_interface s.way.old n.config n.interface s.found other (x.asked.accepts t) a.configures in
-    subst (λ (i : Interface). Wrote s.way i capture s.given.rest r) same (wrote_of s r x t a.given capture a.at a.read)
-
-rest_of : (b : Bool) (given : List ℕ) → (b ≡ false → is_pcapng given ≡ true) → is_pcapng given ≡ false → b ≡ true
-rest_of true given h classic = refl
-rest_of false given h classic = absurd (both (is_pcapng given) (h refl) classic)
+rest_of : (b : Bool) (bytes : List ℕ) → (b ≡ false → is_pcapng bytes ≡ true) → is_pcapng bytes ≡ false → b ≡ true
+rest_of true bytes h classic = refl
+rest_of false bytes h classic = absurd (both (is_pcapng bytes) (h refl) classic)
   where
     both : (c : Bool) → c ≡ true → c ≡ false → ⊥
     both c p q = cc
 
-within_of : (s : Run) (r : Result ⊤ Unmarked) (other : Interface) (capture : List ℕ) → HasRun s r → IsTrue s.way.old.tells
-    → (a : Arrive s.way.old s.way.names other capture) → is_pcapng a.given ≡ false → TookWithin s.way.new s.way.names s.way.from capture
-within_of s r other capture x t a classic =
-    let w = wrote_arrived s r other capture x t a in
-    record {
-      left = w.left;
-      leaves = w.leaves (rest_of s.given.rest a.given (x.asked.follows t a.given a.at).pcapng classic);
-      marked = w.written;
-      at = w.at;
-      within = omega (arith, w.few, ap length w.split, length-append w.taken w.left);
-    }
+module _ (u v d e : View) (n : MarkNames) (r : ReadConf) (x : Arrivals) (to : ℕ) (m : Marking Classes) (y : Result ⊤ Unmarked)
+    (h : HasRun u v d e n r x to m y) where
+  told_v : IsTrue u.tells → IsTrue v.tells
+  told_v t = h.has.come.keeps.tells ∙ t
 
-run_leaves : (s : Run) (r : Result ⊤ Unmarked) → HasRun s r → ConditionLeaves s.way.old s.way.new s.way.names
-run_leaves s r x = leaves_marking s.way x.marking x.distinct.config_marked (record {
-  front = λ t other capture a.
-      let w = wrote_arrived s r other capture x t a in
-      inr (w.written, w.front.0, w.at, w.front.1);
-  within = λ t other capture a classic. within_of s r other capture x t a classic;
-})
+  told_d : IsTrue u.tells → IsTrue d.tells
+  told_d t = h.created.keeps.tells ∙ told_v t
 
--- the capture that arrived, and what was written of it
-record Came (s : Run) (r : Result ⊤ Unmarked) : Type 0 where
-  pub capture : List ℕ
-  pub arrive : Arrive s.way.old s.way.names s.found capture
-  pub classic : is_pcapng arrive.given ≡ false → s.given.rest ≡ true
-  pub wrote : Wrote s.way s.found capture s.given.rest r
+  told_u : IsTrue d.tells → IsTrue u.tells
+  told_u t = sym h.has.come.keeps.tells ∙ sym h.created.keeps.tells ∙ t
 
-came_of : (s : Run) (r : Result ⊤ Unmarked) → HasRun s r → IsTrue s.way.old.tells → Came s r
-came_of s r x t =
-    let given = some_bytes (s.way.old.bytes s.way.names.arrivals) (x.asked.there t) in
-    let f = x.asked.follows t given.0 given.1 in
-    record {
-      capture = f.bytes;
-      arrive = record { configures = x.asked.accepts t; given = given.0; at = given.1; read = f.read };
-      classic = λ c. rest_of s.given.rest given.0 f.pcapng c;
-      wrote = wrote_of s r x t given.0 f.bytes given.1 f.read;
-    }
+  to_of : IsOf v d (written_place part.Marked n.marked) to
+  to_of = h.created.are.0
 
-pub conditioned : (s : Run) (end : ⊤) → HasRun s (Ok end) → SameCounts s.way.old s.way.new
-    → ConditionEnds s.way.old s.way.new s.way.names (Ok done.Conditioned)
-conditioned s end x counts =
-    let comes : ConditionComes s.way.old s.way.new s.way.names (Ok done.Conditioned) = record {
-      conditioned = λ t.
-          let c = came_of s (Ok end) x t in
+  named_to : IsTrue u.tells → d.name to ≡ n.marked
+  named_to t = to_of.name (told_v t)
+
+  -- a file of another part was there when the marked one was created
+  made_as : (f p : ℕ) → v.part f ≡ None → d.part f ≡ Some p → (p ≡ 6) × (f ≡ to)
+  made_as f p fresh at = by (h.created.only f p fresh at)
+    where
+      by : IsAmong f (to ∷ []) → (p ≡ 6) × (f ≡ to)
+      by (inl s) = (same_part p 6 (sym at ∙ ap d.part s ∙ to_of.part), s)
+      by (inr s) = absurd s
+
+  before : (f p : ℕ) → p ≢ 6 → d.part f ≡ Some p → v.part f ≡ Some p
+  before f p other at = by (there_or_not (v.part f))
+    where
+      by : (v.part f ≡ None) ⊎ ((q : ℕ) × (v.part f ≡ Some q)) → v.part f ≡ Some p
+      by (inl none) = absurd (other (made_as f p none at).0)
+      by (inr z) = z.1 ∙ ap (λ (q : ℕ). Some q) (same_part z.0 p (sym (h.created.keeps.part f z.0 z.1) ∙ at))
+
+  none_made : (p : ℕ) → p ≢ 6 → Untouched v e p
+  none_made p other f fresh at = by (there_or_not (d.part f))
+    where
+      by : (d.part f ≡ None) ⊎ ((q : ℕ) × (d.part f ≡ Some q)) → ⊥
+      by (inl none) = no (sym (h.stays.none f none) ∙ at)
+        where
+          no : None ≡ Some p → ⊥
+          no k = cc
+      by (inr z) = other (sym (same_part z.0 p (sym (h.stays.keeps.part f z.0 z.1) ∙ at)) ∙ (made_as f z.0 fresh z.1).0)
+
+  one_six : ◌≢◌ {A = ℕ} 1 6
+  one_six k = omega (arith, k)
+
+  two_six : ◌≢◌ {A = ℕ} 2 6
+  two_six k = omega (arith, k)
+
+  -- the configuration keeps what it has left
+  conf_named : (f : ℕ) → IsTrue u.tells → u.part f ≡ None → v.part f ≡ Some 1 → v.name f ≡ n.config
+  conf_named f t fresh at = ap v.name (is_conf u v n r x h.has f fresh at) ∙ (conf_of u v n r x h.has).name t
+
+  conf_other : (f : ℕ) → IsTrue u.tells → u.part f ≡ None → v.part f ≡ Some 1 → IsOther v (written_place part.Marked n.marked ∷ []) (v.name f)
+  conf_other f t fresh at = ((told_v t, λ s. h.distinct.config_marked (sym (conf_named f t fresh at) ∙ s)), tt)
+
+  conf_stays : (f : ℕ) → IsTrue u.tells → u.part f ≡ None → v.part f ≡ Some 1 → (f ≢ x.file) × NotNamed d (d.name to) f
+  conf_stays f t fresh at = (
+    λ s. one_two (sym at ∙ ap v.part s ∙ (arrivals_of u v n r x h.has).part),
+    (told_d t, λ s. h.distinct.config_marked (sym (h.created.keeps.name f 1 at ∙ conf_named f t fresh at) ∙ s ∙ named_to t)),
+  )
+    where
+      one_two : ◌≡◌ {A = Option ℕ} (Some 1) (Some 2) → ⊥
+      one_two k = cc
+
+  -- the arrivals have what they had when the marked file was created
+  left_there : IsTrue u.tells → d.left x.file ≡ v.left x.file
+  left_there t =
+      let a = arrivals_of u v n r x h.has in
+      h.created.keeps.left x.file 2 a.part ((told_v t, λ s. h.distinct.arrivals_marked (sym (a.name t) ∙ s)), tt)
+
+  keeps_inputs : KeepsInputs u v e
+  keeps_inputs = record {
+    config = λ f t fresh at.
+        h.stays.keeps.left f 1 (h.created.keeps.part f 1 at) (conf_stays f t fresh at) ∙ h.created.keeps.left f 1 at (conf_other f t fresh at);
+    arrivals = λ f t fresh at rest left.
+        let is = is_arrivals u v n r x h.has f fresh at in
+        let P : ℕ → Type 0 = λ k. (tail : List ℕ) × (e.left k ≡ Some tail) × (length tail ≤ length rest) in
+        subst P (sym is) (h.shrinks (told_d t) rest (left_there t ∙ ap v.left (sym is) ∙ left));
+    part = λ f p at. h.stays.keeps.part f p (h.created.keeps.part f p at);
+    no_config = none_made 1 one_six;
+    no_arrivals = none_made 2 two_six;
+  }
+
+  first : InputsFirst (condition_command n) u e
+  first = inputs_first u v n r x h.has e keeps_inputs
+
+  abbrev all : List ℕ
+  all = r.file ∷ x.file ∷ to ∷ []
+
+  works : Works (condition_command n).plan all d e
+  works = record {
+    keeps = keeps_fewer (OtherThan d (d.name to)) (IsOther d (condition_command n).plan) (λ f. (f ≢ x.file) × NotNamed d (d.name to) f)
+        (λ f. IsOther d (condition_command n).plan (d.name f) × (IsAmong f all → ⊥)) d e
+        (λ k o. let z = o.1.1.0 in (z.0, λ s. z.1 (s ∙ named_to (told_u z.0))))
+        (λ f o. let z = o.0.1.1.0 in (λ s. o.1 (inr (inl s)), (z.0, λ s. z.1 (s ∙ named_to (told_u z.0))))) h.stays.keeps;
+    none = h.stays.none;
+  }
+
+  files : FilesEnd (condition_command n).plan u e
+  files =
+      let came = came_more (inputs_two n) (written_place part.Marked n.marked ∷ []) (r.file ∷ x.file ∷ []) (to ∷ []) u v d h.has.had.came h.created in
+      let few_d : TookFew u d 1 n.config = few_kept _ _ u v d 1 n.config h.has.come.few h.created.keeps
+      (λ f fresh at. one_six (made_as f 1 fresh at).0) (λ f t fresh at. conf_other f t fresh at) in
+      let none_e : Untouched d e 1 = λ f fresh at. no_some (sym (h.stays.none f fresh) ∙ at) in
+      let few : TookFew u e 1 n.config = few_kept _ _ u d e 1 n.config few_d h.stays.keeps none_e
+      (λ f t fresh at. conf_stays f t fresh (before f 1 one_six at)) in
+      files_end (condition_command n).plan u e (came_all (condition_command n).plan all u e (came_works (condition_command n).plan all u d e came works))
+      (few, (tt, (tt, tt)))
+    where
+      no_some : ◌≡◌ {A = Option ℕ} None (Some 1) → ⊥
+      no_some k = cc
+
+  unsaid : e.said ≡ u.said
+  unsaid = h.stays.said ∙ h.said ∙ h.has.come.said
+
+  abbrev found : Interface
+  found = h.has.had.configured.found
+
+  abbrev given : IsTrue u.tells → Given
+  given t = given_of u v n.arrivals x (h.has.had.given t)
+
+  wrote : (t : IsTrue u.tells) → Wrote e n x.file found (given t).capture x.given.rest y
+  wrote t =
+      let f = (h.has.had.given t).follows in
+      let shown : with_front true x.given.rest x.given.front.items (d.left x.file) ≡ Some f.bytes =
+      ap (λ (o : Option (List ℕ)). with_front true x.given.rest x.given.front.items o) (left_there t) ∙ f.left in
+      let k = h.marks (told_d t) (conditioning_of found) h.begins.stands f.bytes shown in
+      let named = named_to t in
+      record {
+        written = k.written;
+        at = ap e.bytes (sym named) ∙ k.grown [] (ap d.bytes named ∙ h.empty (told_v t));
+        front = k.front;
+        taken = k.taken;
+        left = k.left;
+        split = k.split;
+        leaves = k.leaves;
+        few = k.few;
+        came = k.came;
+      }
+
+  -- what holds of what is had holds of what is given, and of nothing else
+  of_had : (P : Interface → Given → Type 0) (t : IsTrue u.tells) → P found (given t) → IsGiven u (condition_command n).asked P
+  of_had P t p = is_given u v (condition_command n).asked n.arrivals r x P refl h.has.had t p
+
+  any_given : (P : Interface → Given → Type 0) (t : IsTrue u.tells) (i : Inputs) (g : Given) → AreReady u (condition_command n).asked i → i.given ≡ Some g
+      → P found (given t) → P i.configured.found g
+  any_given P t i g a is p =
+      let Q : Interface → Given → Type 0 = λ j k. P j k → P i.configured.found g in
+      of_given u v (condition_command n).asked n.arrivals r x Q refl h.has.had t
+      (record { inputs = i; ready = a; given = g; is_given = is; holds = λ z. z }) p
+
+  leaves : ConditionLeaves u e n
+  leaves = record {
+    front = λ t i g a is.
+        let w = wrote t in
+        any_given (λ j k. HasFront u e n (marked_in j k.capture)) t i g a is (inr (w.written, w.front.0, w.at, w.front.1));
+    streams = λ t i g a is.
+        any_given (λ j k. is_pcapng k.bytes ≡ false → Streams u e n k.capture) t i g a is (λ classic. streams t classic);
+  }
+    where
+      within : (t : IsTrue u.tells) → is_pcapng (given t).bytes ≡ false → TookWithin e n x.file (given t).capture
+      within t classic =
+          let w = wrote t in
           record {
-            found = s.found;
-            capture = c.capture;
-            arrive = c.arrive;
-            records = c.wrote.came.0.records;
-            whole = c.wrote.came.0.reads;
-            marked = c.wrote.at ∙ ap Some c.wrote.came.1;
-          };
-      no_fault = counts;
-    } in
-    record {
-      comes = comes;
-      told = λ t q. told s.way.old s.way.new s.way.names (Ok done.Conditioned) comes t q;
-      leaves = run_leaves s (Ok end) x;
-    }
+            left = w.left;
+            leaves = w.leaves (rest_of x.given.rest (given t).bytes (h.has.had.given t).follows.pcapng classic);
+            marked = w.written;
+            at = w.at;
+            within = omega (arith, w.few, ap length w.split, length-append w.taken w.left);
+          }
 
-stopped : (s : Run) (why : Unmarked) (last : Step) → (c : Came s (Err why))
-    → AreWhole (conditioning_of s.found) c.capture last c.wrote.written → IsStopped s.way.old s.way.new s.way.names last
-stopped s why last c whole = record {
-  found = s.found;
-  capture = c.capture;
-  arrive = c.arrive;
-  holds = record { marked = c.wrote.written; at = c.wrote.at; whole = whole };
-}
+      streams : (t : IsTrue u.tells) → is_pcapng (given t).bytes ≡ false → Streams u e n (given t).capture
+      streams t classic f k ff fp kf kp =
+          let at_d : d.part f ≡ Some 2 = there_at f fp in
+          let is = is_arrivals u v n r x h.has f ff (before f 2 two_six at_d) in
+          subst (λ (j : ℕ). TookWithin e n j (given t).capture) (sym is) (within t classic)
+        where
+          there_at : (f : ℕ) → e.part f ≡ Some 2 → d.part f ≡ Some 2
+          there_at f at = by (there_or_not (d.part f))
+            where
+              by : (d.part f ≡ None) ⊎ ((q : ℕ) × (d.part f ≡ Some q)) → d.part f ≡ Some 2
+              by (inl none) = absurd (no (sym (h.stays.none f none) ∙ at))
+                where
+                  no : ◌≡◌ {A = Option ℕ} None (Some 2) → ⊥
+                  no k = cc
+              by (inr z) = z.1 ∙ ap (λ (q : ℕ). Some q) (same_part z.0 2 (sym (h.stays.keeps.part f z.0 z.1) ∙ at))
 
-cut_short : (s : Run) → IsMarking s.way → Came s (Err unmarked.Read) → IsCutShort s.way.old s.way.new s.way.names
-cut_short s m c = record {
-  found = s.found;
-  capture = c.capture;
-  arrive = c.arrive;
-  taken = c.wrote.taken;
-  left = c.wrote.left;
-  split = c.wrote.split;
-  file = s.way.from;
-  fresh = m.arrivals.fresh;
-  part = m.keeps.part s.way.from 2 (m.created.keeps.part s.way.from 2 m.arrivals.part);
-  leaves = λ classic. c.wrote.leaves (c.classic classic);
-  last = c.wrote.came.0;
-  is_last = c.wrote.came.1;
-  holds = record { marked = c.wrote.written; at = c.wrote.at; whole = c.wrote.came.2 };
-}
+  -- what is read to one end must come so
+  must : (s : Step) → IsLast s → ((t : IsTrue u.tells) → HasReading (given t).capture s)
+      → IsTrue u.tells → IsQuiet u e → (p : Outcome) → ConditionExpected u n p → IsOr (end_outcome s) p
+  must s last reads t q p x =
+      let k = is_end u n p x in
+      let one = reads t in
+      let other = of_given u v (condition_command n).asked n.arrivals r _ (λ i g. HasReading g.capture k.step) refl h.has.had t k.reads in
+      let same : s ≡ k.step = (one_reading (given t).capture one.0 other.0 s k.step one.1 last other.1 k.last).1 in
+      or_same (end_outcome s) p (ap end_outcome same ∙ sym k.same)
 
--- faults that were met
-pub record Faults (w : Way) (why : Unmarked) : Type 0 where
-  pub read : why ≡ unmarked.Read → ReadFault w.created w.new w.from
-  pub write : why ≡ unmarked.Write → WriteFault w.created w.new w.to
+  read_before : (p : ℕ) → u.read_faults p ≤ d.read_faults p
+  read_before p = omega (arith, h.has.come.keeps.later.read p, h.created.keeps.later.read p)
 
-interface_in : (u : View) (n : MarkNames) (found : Interface) → Accepts u n.config n.interface found → IsTrue u.tells → HasInterface u n
-interface_in u n found a t = (found, a t)
+  write_before : (p : ℕ) → u.write_faults p ≤ d.write_faults p
+  write_before p = omega (arith, h.has.come.keeps.later.write p, h.created.keeps.later.write p)
 
-unmarked_fails : (s : Run) (why : Unmarked) → HasRun s (Err why) → Faults s.way why
-    → ConditionFails s.way.old s.way.new s.way.names (unmarked_failure why)
-unmarked_fails s (unmarked.Damaged damage) x f = λ t.
-    let c = came_of s (Err (unmarked.Damaged damage)) x t in
-    stopped s (unmarked.Damaged damage) (Fault damage) c c.wrote.came
-unmarked_fails s unmarked.Limit x f = inl (λ t.
-    let c = came_of s (Err unmarked.Limit) x t in
-    stopped s unmarked.Limit Limit c c.wrote.came)
-unmarked_fails s unmarked.Read x f =
-    let u = s.way.old in
-    let d = s.way.created in
-    let m = x.marking in
-    let at_d : d.part s.way.from ≡ Some 2 = m.created.keeps.part s.way.from 2 m.arrivals.part in
-    let before : u.read_faults 2 ≤ d.read_faults 2 = omega (arith, m.arrivals.reading.keeps.later.read 2, m.created.keeps.later.read 2) in (
-      λ t. interface_in u s.way.names s.found x.asked.accepts t,
-      inr (
-        rose_later (u.read_faults 2) (d.read_faults 2) (s.way.new.read_faults 2) before (f.read refl 2 at_d),
-        λ t. cut_short s m (came_of s (Err unmarked.Read) x t),
-      ),
+  ends_own : (f : Failure) → ConditionOwn u e n f → (IsTrue u.tells → IsQuiet u e → (p : Outcome) → ConditionExpected u n p → IsOr (Err f) p)
+      → ConditionEnds u e n (Err f)
+  ends_own f own must =
+      own_ends (condition_command n) (ConditionDone u e n) (ConditionOwn u e n) (ConditionExpected u n) (ConditionLeaves u e n) u e f
+      (ready u v n r x h.has) own must files first leaves unsaid
+
+  ends_memory : ConditionEnds u e n (Err failure.NoMemory)
+  ends_memory =
+      memory_ends (condition_command n) (ConditionDone u e n) (ConditionOwn u e n) (ConditionExpected u n) (ConditionLeaves u e n) u e
+      files first leaves unsaid
+
+-- IT IS DONE
+pub conditioned : (u v d e : View) (n : MarkNames) (r : ReadConf) (x : Arrivals) (to : ℕ) (m : Marking Classes) (y : ⊤) → HasRun u v d e n r x to m (Ok y)
+    → SameCounts u e → ConditionEnds u e n (Ok done.Done)
+conditioned u v d e n r x to m y h counts =
+    done_ends (condition_command n) (ConditionDone u e n) (ConditionOwn u e n) (ConditionExpected u n) (ConditionLeaves u e n) u e done.Done
+    (ready u v n r x h.has) (
+      λ t.
+          let w = wrote u v d e n r x to m (Ok y) h t in
+          of_had u v d e n r x to m (Ok y) h (HasConditioned e n) t
+          (record { records = w.came.0.records; whole = w.came.0.reads; marked = w.at ∙ ap Some w.came.1 }),
+      unsaid u v d e n r x to m (Ok y) h,
     )
-unmarked_fails s unmarked.Write x f =
-    let u = s.way.old in
-    let d = s.way.created in
-    let m = x.marking in
-    let before : u.write_faults 6 ≤ d.write_faults 6 = omega (arith, m.arrivals.reading.keeps.later.write 6, m.created.keeps.later.write 6) in (
-      λ t. interface_in u s.way.names s.found x.asked.accepts t,
-      rose_later (u.write_faults 6) (d.write_faults 6) (s.way.new.write_faults 6) before (f.write refl 6 m.created.is_new.part),
-    )
-unmarked_fails s unmarked.NoMemory x f = tt
+    counts
+    (must u v d e n r x to m (Ok y) h End tt (λ t. let w = wrote u v d e n r x to m (Ok y) h t in (w.came.0.records, w.came.0.reads)))
+    (files u v d e n r x to m (Ok y) h) (first u v d e n r x to m (Ok y) h) (leaves u v d e n r x to m (Ok y) h)
 
-pub unmarked_ends : (s : Run) (why : Unmarked) → HasRun s (Err why) → Faults s.way why
-    → ConditionEnds s.way.old s.way.new s.way.names (Err (unmarked_failure why))
-unmarked_ends s why x f =
-    let fails = unmarked_fails s why x f in
-    record {
-      comes = fails;
-      told = λ t q. told s.way.old s.way.new s.way.names (Err (unmarked_failure why)) fails t q;
-      leaves = run_leaves s (Err why) x;
-    }
+-- IT IS NOT
+module _ (u v d e : View) (n : MarkNames) (r : ReadConf) (x : Arrivals) (to : ℕ) (m : Marking Classes) where
+  abbrev Run : Unmarked → Type 0
+  Run why = HasRun u v d e n r x to m (Err why)
+
+  stopped : (why : Unmarked) (s : Step) → (h : Run why) → IsLast s
+      → ((t : IsTrue u.tells) → AreWhole (conditioning_of h.has.had.configured.found) (given u v d e n r x to m (Err why) h t).capture s
+      (wrote u v d e n r x to m (Err why) h t).written)
+      → (IsTrue u.tells → IsGiven u (condition_command n).asked (IsStopped e n s))
+      × (IsTrue u.tells → IsQuiet u e → (p : Outcome) → ConditionExpected u n p → IsOr (end_outcome s) p)
+  stopped why s h last whole = (
+    λ t.
+        let w = wrote u v d e n r x to m (Err why) h t in
+        of_had u v d e n r x to m (Err why) h (IsStopped e n s) t (record { marked = w.written; at = w.at; whole = whole t }),
+    must u v d e n r x to m (Err why) h s last (λ t. let z = whole t in (z.records, z.reads)),
+  )
+
+  cut_short : (h : Run unmarked.Read) → x.given.rest ≡ true → (t : IsTrue u.tells) → IsGiven u (condition_command n).asked (IsCutShort u e n)
+  cut_short h rest t =
+      let w = wrote u v d e n r x to m (Err unmarked.Read) h t in
+      let a = arrivals_of u v n r x h.has in
+      of_had u v d e n r x to m (Err unmarked.Read) h (IsCutShort u e n) t (record {
+        read_on = ((h.has.had.given t).follows.classic rest).0;
+        taken = w.taken;
+        left = w.left;
+        split = w.split;
+        file = x.file;
+        fresh = a.fresh;
+        part = h.stays.keeps.part x.file 2 (h.created.keeps.part x.file 2 a.part);
+        leaves = w.leaves rest;
+        last = w.came.0;
+        is_last = w.came.1;
+        holds = record { marked = w.written; at = w.at; whole = w.came.2 };
+      })
+
+  pub unmarked_ends : (why : Unmarked) → Run why → Faults d e x.file to x.given.rest why → ConditionEnds u e n (Err (unmarked_failure why))
+  unmarked_ends (unmarked.Damaged damage) h f =
+      let s = stopped (unmarked.Damaged damage) (Fault damage) h tt (λ t. (wrote u v d e n r x to m (Err (unmarked.Damaged damage)) h t).came) in
+      ends_own u v d e n r x to m (Err (unmarked.Damaged damage)) h (failure.Capture link.Sole (capture.Damage damage)) s.0 s.1
+  unmarked_ends unmarked.Limit h f =
+      let s = stopped unmarked.Limit Limit h tt (λ t. (wrote u v d e n r x to m (Err unmarked.Limit) h t).came) in
+      ends_own u v d e n r x to m (Err unmarked.Limit) h (failure.Capture link.Sole capture.TooLong) s.0 s.1
+  unmarked_ends unmarked.Read h f =
+      let z = f.read refl in
+      let at : d.part x.file ≡ Some 2 = h.created.keeps.part x.file 2 (arrivals_of u v n r x h.has).part in
+      let rose = rose_later (u.read_faults 2) (d.read_faults 2) (e.read_faults 2) (read_before u v d e n r x to m (Err unmarked.Read) h 2) (z.1 2 at) in
+      ends_own u v d e n r x to m (Err unmarked.Read) h (failure.Read part.Arrivals) (rose, cut_short h z.0)
+      (λ t q p k. absurd ((q 2 (omega arith)).0 rose))
+  unmarked_ends unmarked.Write h f =
+      let at : d.part to ≡ Some 6 = h.created.are.0.part in
+      let rose = rose_later (u.write_faults 6) (d.write_faults 6) (e.write_faults 6) (write_before u v d e n r x to m (Err unmarked.Write) h 6) (f.write refl 6 at) in
+      ends_own u v d e n r x to m (Err unmarked.Write) h (failure.Write part.Marked) rose (λ t q p k. absurd ((q 6 (omega arith)).1 (omega arith) rose))
+  unmarked_ends unmarked.NoMemory h f = ends_memory u v d e n r x to m (Err unmarked.NoMemory) h
+
+-- NOTHING WAS CREATED: memory ran out, or the marked file could not be
+module _ (u v e : View) (n : MarkNames) (r : ReadConf) (x : Arrivals) (h : HasInputs u v n r x) (c : Unchanged v e) where
+  pub uncreated_starved : ConditionEnds u e n (Err failure.NoMemory)
+  uncreated_starved =
+      memory_ends (condition_command n) (ConditionDone u e n) (ConditionOwn u e n) (ConditionExpected u n) (ConditionLeaves u e n) u e
+      (uncreated_files u v e n r x h c) (uncreated_first u v e n r x h c) (uncreated_leaves u v e n r x h c) (c.said ∙ h.come.said)
+
+  pub uncreated_fails : Rose (v.write_faults 6) (e.write_faults 6) → ConditionEnds u e n (Err (failure.Write part.Marked))
+  uncreated_fails rose =
+      let since = rose_later (u.write_faults 6) (v.write_faults 6) (e.write_faults 6) (h.come.keeps.later.write 6) rose in
+      own_ends (condition_command n) (ConditionDone u e n) (ConditionOwn u e n) (ConditionExpected u n) (ConditionLeaves u e n) u e (failure.Write part.Marked)
+      (ready u v n r x h) since (λ t q p k. absurd ((q 6 (omega arith)).1 (omega arith) since)) (uncreated_files u v e n r x h c)
+      (uncreated_first u v e n r x h c) (uncreated_leaves u v e n r x h c) (c.said ∙ h.come.said)
+
+-- the inputs are not had
+come_leaves : (u v : View) (n : MarkNames) → HaveCome (condition_command n).asked u v → ConditionLeaves u v n
+come_leaves u v n h = record {
+  front = λ t i g a e. inl (none, h.keeps.bytes n.marked tt);
+  streams = λ t i g a e classic f k ff fp kf kp. absurd (none k kf kp);
+}
+  where
+    two : (es ds : List Place) (fs : List ℕ) (f : ℕ) → inputs_two n ≡ es ++ ds → Came es fs u v → u.part f ≡ None → v.part f ≡ Some 6 → ⊥
+    two es ds fs f split c fresh at =
+        by ((files_end (inputs_two n) u v (record { front = es; rest = ds; split = split; files = fs; came = c }) (h.few, (tt, tt))).parts f 6 fresh at)
+      where
+        by : HasPart (inputs_two n) 6 → ⊥
+        by (inl k) = omega (arith, k)
+        by (inr (inl k)) = omega (arith, k)
+        by (inr (inr k)) = k
+
+    none : Untouched u v 6
+    none f fresh at = two h.along.front h.along.rest h.along.files f h.along.split h.along.came fresh at
+
+pub unready_condition : (u v : View) (n : MarkNames) (y : Unready) → HaveCome (condition_command n).asked u v → IsUnready (condition_command n).asked u v y
+    → ConditionEnds u v n (Err (unready_failure link.Sole y))
+unready_condition u v n y h m =
+    unready_ends (condition_command n) (ConditionDone u v n) (ConditionOwn u v n) (ConditionExpected u n) (ConditionLeaves u v n) (condition_reads n) u v y
+    (expected_ready u n) h m (come_leaves u v n h)

@@ -1,8 +1,4 @@
-pub mod ArrivingLemmas
-pub mod MovingLemmas
-pub mod OneLemmas
-pub mod TellLemmas
-pub mod LeaveLemmas
 pub mod EndLemmas
-pub mod SaidLemmas
-pub mod StartLemmas
+pub mod InputLemmas
+pub mod MovingLemmas
+pub mod RunLaws

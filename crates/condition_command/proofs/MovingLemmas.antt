@@ -1,6 +1,6 @@
 -- What a marker takes from one file it writes to another.
 use Rattle.std.proofs.Common.{◌≡◌, ◌≤◌, ◌∙◌, ap, ℕ, List, [], ◌++◌, length, take, drop, Err, refl, arith, sym, subst, append_assoc, append-nil, length-append, true≢false}
-use Rattle.std.specs.Prelude.{◌≢◌, None, Some, true, false, ⊤}
+use Rattle.std.specs.Prelude.{◌≢◌, Bool, eqb, None, Some, true, false, ⊤}
 use Rattle.std.specs.declared.option.Option.{Option}
 use Rattle.std.proofs.Math.Seq.{take-length}
 use Rattle.std.proofs.lemmas.List.{append_cancel_left, take-append-drop}
@@ -14,12 +14,18 @@ use Rattle.marked_files.specs.declared.behind.Behind.{Behind}
 use Rattle.marked_files.proofs.BehindLemmas.{cut_whole}
 use Rattle.play_base.specs.declared.trouble.Trouble.{Trouble}
 use Rattle.play_base.specs.declared.trouble.Trouble.TheVariants as trouble
-use Rattle.pcapng_files.specs.Fronts.{front_view, with_front}
-use Rattle.pcapng_files.proofs.FrontLaws.{left_self}
-use Rattle.play_base.specs.View.{View, Everything, NoneAppears, NotNamed, OtherThan, Took, Wrote, WroteFront}
+use Rattle.arrivals_source.specs.Counted.{counted_view}
+use Rattle.arrivals_source.specs.Ways.{source_view, way_number, way_own, with_way}
+use Rattle.arrivals_source.specs.declared.way.Way.{Way}
+use Rattle.arrivals_source.specs.declared.way.Way.TheVariants.{AsGiven, Converted, Marked, MarkedConverted}
+use Rattle.arrivals_source.proofs.CountedLaws.{keeps_behind}
+use Rattle.arrivals_source.proofs.SourceLaws.{AreFixed, keeps_back, left_self, still_fixed}
+use Rattle.pcapng_files.specs.declared.front.Front.{Front}
+use Rattle.pcapng_files.specs.Fronts.{with_front}
+use Rattle.play_base.specs.View.{View, Everything, NotNamed, OtherThan, Took, Wrote, WroteFront}
 use Rattle.play_base.proofs.ViewLaws.{keeps_fewer, keeps_refl, keeps_trans, later_trans, part_of_there, still_there, wrote_nothing}
 use Rattle.traffic_marks.specs.Marked.{Conditioning, marked}
-use Rattle.condition_command.specs.Marking.{CameOf, HasMarked, KeepsOthers, Marks, MarksLeft, read_trouble, write_trouble}
+use Rattle.condition_command.specs.Marking.{CameOf, HasMarked, Marks, MarksLeft, Stays, read_trouble, way_by, write_trouble}
 use Rattle.condition_command.specs.Moving.{AreApart, HasMoved, IsOn}
 use Rattle.condition_command.specs.declared.marking.Unmarked.{Unmarked}
 
@@ -113,11 +119,6 @@ on_wrote u v w from to m n o apart x y given = record {
 }
 
 -- all but the two files stays
-pub record Stays (u v : View) (from to : ℕ) : Type 0 where
-  pub keeps : KeepsOthers u v from to
-  pub none : NoneAppears u v
-  pub said : v.said ≡ u.said
-
 pub stays_on : (u v : View) (from to : ℕ) (m n : Marking Classes) → IsOn u v from to m n → Stays u v from to
 stays_on u v from to m n x = record { keeps = x.moved.keeps; none = x.moved.none; said = x.moved.said }
 
@@ -168,18 +169,20 @@ marks_by u v w from to m n k r apart x y room came t c first s left at =
     }
 
 -- a read failed, or no memory was left for it: nothing more is written
-came_cut : (c : Conditioning) (taken bytes left : List ℕ) (n : Marking Classes) (t : Trouble) → IsAtRecordEnd placed_by c taken bytes n → Waits n → length n.held.ready ≡ 0
-    → CameOf c (taken ++ left) taken (bytes ++ []) (Err (read_trouble t))
-came_cut c taken bytes left n trouble.Failed s w none =
+came_cut : (c : Conditioning) (taken bytes left : List ℕ) (n : Marking Classes) (streamed : Bool) (t : Trouble) → IsAtRecordEnd placed_by c taken bytes n → Waits n → length n.held.ready ≡ 0
+    → CameOf c (taken ++ left) taken (bytes ++ []) (Err (read_trouble streamed t))
+came_cut c taken bytes left n true trouble.Failed s w none =
     let x = cut_whole placed_by c taken bytes n s w none in
     (x.0, x.1, subst (λ (l : List ℕ). AreWhole c taken x.0 l) (sym (append-nil bytes)) x.2)
-came_cut c taken bytes left n trouble.NoMemory s w none = tt
+came_cut c taken bytes left n false trouble.Failed s w none = tt
+came_cut c taken bytes left n true trouble.NoMemory s w none = tt
+came_cut c taken bytes left n false trouble.NoMemory s w none = tt
 
-pub marks_cut : (u v : View) (from to : ℕ) (m n : Marking Classes) (t : Trouble) → AreApart u from to → IsOn u v from to m n → Waits n
-    → length n.held.ready ≡ 0 → holds n ≤ 262160 → MarksLeft u v from to m (Err (read_trouble t))
-marks_cut u v from to m n t apart x w none room =
-    marks_by u v v from to m n 0 (Err (read_trouble t)) apart x (wrote_nothing v to) room
-    (λ c taken bytes left s at. came_cut c taken bytes left n t s w none)
+pub marks_cut : (u v : View) (from to : ℕ) (m n : Marking Classes) (streamed : Bool) (t : Trouble) → AreApart u from to → IsOn u v from to m n → Waits n
+    → length n.held.ready ≡ 0 → holds n ≤ 262160 → MarksLeft u v from to m (Err (read_trouble streamed t))
+marks_cut u v from to m n streamed t apart x w none room =
+    marks_by u v v from to m n 0 (Err (read_trouble streamed t)) apart x (wrote_nothing v to) room
+    (λ c taken bytes left s at. came_cut c taken bytes left n streamed t s w none)
 
 -- a write failed, or no memory was left for it: a front of what is ready was written
 came_unwritten : (c : Conditioning) (capture taken written : List ℕ) (t : Trouble) → CameOf c capture taken written (Err (write_trouble t))
@@ -205,32 +208,109 @@ marks_told u v w from to m n b r apart x told y room ends =
     ends c (taken ++ left) taken (bytes ++ take (length n.held.ready) n.held.ready)
     (subst (λ (l : List ℕ). IsBehind c (taken ++ left) (bytes ++ l) b) all (told left at c taken bytes s)))
 
--- WHAT STANDS IN FRONT: marked files over a front, of which no byte follows it; under the names the files behind hold the same
-pub marks_behind : (v w x : View) (g from to : ℕ) (front : List ℕ) (m : Marking Classes) (r : Result ⊤ Unmarked)
-    → MarksLeft (front_view v g from false front) x from to m r → x.bytes ≡ w.bytes → Marks v w from to false front m r
-marks_behind v w x g from to front m r h same t c stands capture at =
-    let y = h t c [] stands capture (left_self from false front (v.left from) ∙ at) in
-    record {
-      written = y.written;
-      grown = λ before held. sym (ap (λ (bytes : List ℕ → Option (List ℕ)). bytes (v.name to)) same) ∙ y.grown before held;
-      front = y.front;
-      taken = y.taken;
-      left = y.left;
-      split = y.split;
-      leaves = λ e. absurd (true≢false (sym e));
-      few = y.few;
-      came = y.came;
-    }
-
--- and where its own bytes follow what was taken of it
 some_is : (x y : List ℕ) → Some x ≡ Some y → x ≡ y
 some_is x y h = cc
 
-pub marks_followed : (u w : View) (from to : ℕ) (front : List ℕ) (m : Marking Classes) (r : Result ⊤ Unmarked)
-    → MarksLeft u w from to m r → Marks u w from to true front m r
-marks_followed u w from to front m r x t c stands capture at = by (u.left from) refl at
-  where
-    by : (left : Option (List ℕ)) → u.left from ≡ left → with_front true true front left ≡ Some capture → HasMarked u w from to true c capture r
-    by None e h = absurd (cc)
-    by (Some own) e h =
-        subst (λ (l : List ℕ). HasMarked u w from to true c l r) (some_is (front ++ own) capture h) (x t c front stands own e)
+-- WHAT IS MARKED THROUGH A SOURCE is marked of the files behind it: of what they have left behind the front, or of the front alone
+module _ (v w : View) (g h from next to : ℕ) (front ahead : Front) (later : Way Classes) (m : Marking Classes) (r : Result ⊤ Unmarked) where
+  abbrev Old : Bool → View
+  Old rest = source_view placed_by v g from front (way_by rest)
+
+  abbrev New : View
+  New = source_view placed_by w h next ahead later
+
+  as_given : (l : Way Classes) (t : Bool) (left : Option (List ℕ)) → way_number l ≡ 0 → way_own placed_by ahead l t left ≡ left
+  as_given AsGiven t left e = refl
+  as_given Converted t left e = absurd (cc)
+  as_given (Marked n) t left e = absurd (cc)
+  as_given (MarkedConverted n) t left e = absurd (cc)
+
+  new_left : way_number later ≡ 0 → next ≡ from → New.left from ≡ w.left from
+  new_left number same =
+      ap (λ (n : ℕ). with_way (eqb from n) placed_by ahead later w.tells (w.left from)) same ∙ left_self from placed_by ahead later w.tells (w.left from)
+      ∙ as_given later w.tells (w.left from) number
+
+  followed : Stays (Old true) New from to → MarksLeft (Old true) New from to m r → Marks v w from to true front.bytes.now m r
+  followed s x t c stands capture at = by (v.left from) refl at
+    where
+      fixed : AreFixed g h from next (way_by true) later v.fixed w.fixed
+      fixed = still_fixed placed_by v w g h from next front ahead (way_by true) later _ _ s.keeps
+
+      by : (left : Option (List ℕ)) → v.left from ≡ left → with_front true true front.bytes.now left ≡ Some capture → HasMarked v w from to true c capture r
+      by None e k = absurd (cc)
+      by (Some own) e k =
+          let y = x t c front.bytes.now stands own (left_self from placed_by front AsGiven v.tells (v.left from) ∙ e) in
+          subst (λ (l : List ℕ). HasMarked v w from to true c l r) (some_is (front.bytes.now ++ own) capture k)
+          (record {
+            written = y.written;
+            grown = y.grown;
+            front = y.front;
+            taken = y.taken;
+            left = y.left;
+            split = y.split;
+            leaves = λ b. sym (new_left fixed.number fixed.file_is) ∙ y.leaves b;
+            few = y.few;
+            came = y.came;
+          })
+
+  in_memory : front.rest ≡ false → MarksLeft (Old false) New from to m r → Marks v w from to false front.bytes.now m r
+  in_memory none x t c stands capture at =
+      let shown : (Old false).left from ≡ Some capture =
+      left_self from placed_by front Converted v.tells (v.left from) ∙ ap (λ (b : Bool). with_front true b front.bytes.now (v.left from)) none ∙ at in
+      let y = x t c [] stands capture shown in
+      record {
+        written = y.written;
+        grown = y.grown;
+        front = y.front;
+        taken = y.taken;
+        left = y.left;
+        split = y.split;
+        leaves = λ e. absurd (true≢false (sym e));
+        few = y.few;
+        came = y.came;
+      }
+
+  marks_by_way : (rest : Bool) → front.rest ≡ rest → Stays (Old rest) New from to → MarksLeft (Old rest) New from to m r
+      → Marks v w from to rest front.bytes.now m r
+  marks_by_way true e s x = followed s x
+  marks_by_way false e s x = in_memory e x
+
+  module _ (way : Way Classes) (stays : Stays (source_view placed_by v g from front way) New from to) where
+    pub source_reference : h ≡ g
+    source_reference = (still_fixed placed_by v w g h from next front ahead way later _ _ stays.keeps).reference
+
+    pub marks_source : (rest : Bool) → way ≡ way_by rest → front.rest ≡ rest → MarksLeft (source_view placed_by v g from front way) New from to m r
+        → Marks v w from to rest front.bytes.now m r
+    marks_source rest is e x =
+        let P : Way Classes → Type 0 = λ y. Stays (source_view placed_by v g from front y) New from to in
+        let R : Way Classes → Type 0 = λ y. MarksLeft (source_view placed_by v g from front y) New from to m r in
+        marks_by_way rest e (subst P is stays) (subst R is x)
+
+    pub stays_source : Stays v w from to
+    stays_source = record {
+      keeps = keeps_back placed_by v w g h from next front ahead way later (OtherThan v (v.name to)) (λ f. (f ≢ from) × NotNamed v (v.name to) f)
+          (λ f k. k.0) stays.keeps;
+      none = stays.none;
+      said = stays.said;
+    }
+
+-- and so of files of which the bytes are counted
+module _ (v w : View) (g h from next to later : ℕ) where
+  pub marks_counted : (rest : Bool) (front : List ℕ) (m : Marking Classes) (r : Result ⊤ Unmarked)
+      → Marks (counted_view v g from 0) (counted_view w h next later) from to rest front m r → Marks v w from to rest front m r
+  marks_counted rest front m r x t c stands capture at =
+      let y = x t c stands capture at in
+      record {
+        written = y.written;
+        grown = y.grown;
+        front = y.front;
+        taken = y.taken;
+        left = y.left;
+        split = y.split;
+        leaves = y.leaves;
+        few = y.few;
+        came = y.came;
+      }
+
+  pub stays_counted : Stays (counted_view v g from 0) (counted_view w h next later) from to → Stays v w from to
+  stays_counted s = record { keeps = keeps_behind v w g h from next later _ _ s.keeps; none = s.none; said = s.said }

@@ -1,5 +1,4 @@
-pub mod Arriving
+pub mod Conditioning
 pub mod Marking
 pub mod Moving
-pub mod Conditioning
 pub mod Starting

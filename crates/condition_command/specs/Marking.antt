@@ -1,5 +1,5 @@
 -- What becomes of a capture that a marker writes from one file to another.
-use Rattle.std.specs.Prelude.{◌≡◌, ◌≢◌, ◌≤◌, ◌+◌, ◌++◌, ℕ, Bool, true, List, [], length, Some, Ok, Err, IsTrue, if◌then◌else◌, ⊤}
+use Rattle.std.specs.Prelude.{◌≡◌, ◌≢◌, ◌≤◌, ◌+◌, ◌++◌, ℕ, Bool, true, false, List, [], length, Some, Ok, Err, IsTrue, if◌then◌else◌, ⊤}
 use Rattle.std.specs.declared.result.Result.{Result}
 use Rattle.capture_model.specs.Capture.{IsLast, Step}
 use Rattle.frame_classes.specs.Frames.{Classes, placed_by}
@@ -9,13 +9,15 @@ use Rattle.marked_files.specs.declared.behind.Behind.TheVariants as behind
 use Rattle.pcapng_files.specs.Fronts.{with_front}
 use Rattle.play_base.specs.declared.trouble.Trouble.{Trouble}
 use Rattle.play_base.specs.declared.trouble.Trouble.TheVariants as trouble
-use Rattle.play_base.specs.View.{View, Keeps, NotNamed, OtherThan}
+use Rattle.play_base.specs.View.{View, Keeps, NoneAppears, NotNamed, OtherThan}
 use Rattle.traffic_marks.specs.Marked.{Conditioning, marked}
-use Rattle.command_base.specs.declared.failure.Failure.{Failure}
-use Rattle.command_base.specs.declared.failure.Failure.TheVariants as failure
-use Rattle.command_base.specs.declared.parts.ReadPart.TheVariants as read
-use Rattle.command_base.specs.declared.parts.RunLimit.TheVariants as limit
-use Rattle.command_base.specs.declared.parts.WrittenPart.TheVariants as written
+use Rattle.run_outcomes.specs.declared.outcome.CaptureStop.TheVariants as capture
+use Rattle.run_outcomes.specs.declared.outcome.Failure.{Failure}
+use Rattle.run_outcomes.specs.declared.outcome.Failure.TheVariants as failure
+use Rattle.run_outcomes.specs.declared.outcome.Link.TheVariants as link
+use Rattle.file_plans.specs.declared.part.Part.TheVariants as part
+use Rattle.arrivals_source.specs.declared.way.Way.{Way}
+use Rattle.arrivals_source.specs.declared.way.Way.TheVariants.{AsGiven, Converted}
 use Rattle.condition_command.specs.declared.marking.Unmarked.{Unmarked}
 use Rattle.condition_command.specs.declared.marking.Unmarked.TheVariants as unmarked
 
@@ -55,19 +57,31 @@ abbrev pub Marks : View → View → (from to : ℕ) → (rest : Bool) → (fron
 Marks old new from to rest front m r = IsTrue old.tells → (c : Conditioning) → IsAtRecordEnd placed_by c (if rest then front else []) [] m
     → (capture : List ℕ) → with_front true rest front (old.left from) ≡ Some capture → HasMarked old new from to rest c capture r
 
--- what ends a command
+-- nothing but the two files changes
+pub record Stays (old new : View) (from to : ℕ) : Type 0 where
+  pub keeps : KeepsOthers old new from to
+  pub none : NoneAppears old new
+  pub said : new.said ≡ old.said
+
+-- what it ends the command as
 abbrev pub unmarked_failure : Unmarked → Failure
-unmarked_failure (unmarked.Damaged found) = failure.Capture found
-unmarked_failure unmarked.Limit = failure.Limit limit.Capture
-unmarked_failure unmarked.Read = failure.Read read.Arrivals
-unmarked_failure unmarked.Write = failure.Write written.Marked
+unmarked_failure (unmarked.Damaged found) = failure.Capture link.Sole (capture.Damage found)
+unmarked_failure unmarked.Limit = failure.Capture link.Sole capture.TooLong
+unmarked_failure unmarked.Read = failure.Read part.Arrivals
+unmarked_failure unmarked.Write = failure.Write part.Marked
 unmarked_failure unmarked.NoMemory = failure.NoMemory
 
--- what trouble with a read, and with a write, means
-abbrev pub read_trouble : Trouble → Unmarked
-read_trouble trouble.Failed = unmarked.Read
-read_trouble trouble.NoMemory = unmarked.NoMemory
+-- what trouble with a read, and with a write, means; no read fails of a capture that is in memory
+abbrev pub read_trouble : (streamed : Bool) → Trouble → Unmarked
+read_trouble true trouble.Failed = unmarked.Read
+read_trouble false trouble.Failed = unmarked.NoMemory
+read_trouble streamed trouble.NoMemory = unmarked.NoMemory
 
 abbrev pub write_trouble : Trouble → Unmarked
 write_trouble trouble.Failed = unmarked.Write
 write_trouble trouble.NoMemory = unmarked.NoMemory
+
+-- the arrivals are read as they are given, or of memory
+abbrev pub way_by : (rest : Bool) → Way Classes
+way_by true = AsGiven
+way_by false = Converted

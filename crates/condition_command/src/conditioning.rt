@@ -1,27 +1,28 @@
 // Conditioning a capture.
 ghost use Rattle.std.specs.Prelude.{◌≡◌, ◌≤◌, [], Some, if◌then◌else◌, length, true, IfOk, IsTrue};
-ghost use Rattle.command_base.specs.Configuration.{Accepts};
-ghost use Rattle.command_base.specs.Input.{EndsAtConfig};
+ghost use Rattle.command_form.specs.Names.{mark_names_read};
 ghost use Rattle.conf_laws.specs.Fit.{IsInterface};
-ghost use Rattle.conf_tree.specs.declared.interface.Interface.{Interface};
 ghost use Rattle.interface_marks.specs.Conditioners.{Begins};
 ghost use Rattle.marked_files.specs.Standing.{Waits};
-ghost use Rattle.condition_command.specs.Conditioning.{ConditionEnds, mark_names_of};
-ghost use Rattle.condition_command.specs.Starting.{HasStarted};
+ghost use Rattle.condition_command.specs.Conditioning.{ConditionEnds};
+ghost use Rattle.condition_command.specs.Starting.{HasInputs};
 ghost use Rattle.play_base.specs.View.{SameCounts, View};
 ghost use Rattle.play_words.specs.Words.{AreDistinctMarks};
+ghost use Rattle.run_inputs.specs.declared.inputs.ReadConf.{ReadConf};
 
-use crate::arrivals::{Arrivals, open_arrivals};
 use crate::marking::{unmarked_failure, write_marked};
 use arrivals_front::Given;
-use command_base::{Done, Failure, WrittenPart, absent, part, read_conf};
+use command_form::unready_failure;
 use conf_laws::configurations_fit;
 use conf_tree::Interface;
+use file_plans::{Entry, Part, Way, open_next};
 use frame_classes::Classifier;
 use interface_marks::marker_of;
 use marked_files::Marker;
 use play_base::{Files, NoMemory, Trouble};
 use play_words::ConditionWords;
+use run_inputs::{Arrivals, Asking, found, read_inputs};
+use run_outcomes::{Done, Failure, Link};
 use std::alloc::Global;
 
 // A marker of the conditioners of an interface, for arrivals that begin so.
@@ -38,12 +39,12 @@ fn marker_for(
     if given.rest {
         return marker_of(alloc, interface, given.front.as_slice());
     }
-    let none: [u8; 0] = [];
-    marker_of(alloc, interface, &none)
+    marker_of(alloc, interface, &[])
 }
 
-// Creates the marked file, and writes there what the marker makes of arrivals that were opened.
-fn mark_opened<F: Files>(
+// Creates the marked file, and writes there what the marker makes of arrivals that are had.
+#[tactic(auto, using(play_base::proofs::ViewLaws::same_trans, play_base::proofs::ViewLaws::same_refl))]
+fn mark_had<F: Files>(
     files: &mut F,
     words: &ConditionWords<'_>,
     arrivals: &Arrivals,
@@ -54,59 +55,36 @@ fn mark_opened<F: Files>(
     requires named { IsTrue (F.view files.old).tells → (F.view files.old).name arrivals.now.file ≡ words.now.arrivals.now }
     requires given { length marker.old.held.ready ≡ 0 }
     requires waits { Waits marker.old }
-    ensures ends { (u v : View) (found : Interface)
-        → HasStarted u v (F.view files.old) (mark_names_of words.now) found arrivals.now.file arrivals.now.given
-        → Begins found (if arrivals.now.given.rest then arrivals.now.given.front.items else []) marker.old
-        → SameCounts u (F.view files.old) → ConditionEnds u (F.view files.new) (mark_names_of words.now) result }
-    ensures silent { (F.view files.new).said ≡ (F.view files.old).said }
+    ensures { (u : View) (r : ReadConf) (h : HasInputs u (F.view files.old) (mark_names_read words.now) r arrivals.now)
+        → Begins h.had.configured.found (if arrivals.now.given.rest then arrivals.now.given.front.items else []) marker.old
+        → SameCounts u (F.view files.old) → ConditionEnds u (F.view files.new) (mark_names_read words.now) result }
 {
-    let marked = match files.create(part::MARKED, words.marked) {
+    let entry = Entry {
+        part: Part::Marked,
+        name: words.marked,
+        way: Way::Written,
+    };
+    let marked = match open_next(files, &entry) {
         Ok(file) => file,
-        Err(Trouble::Failed) => return Err(Failure::Write(WrittenPart::Marked)),
+        Err(Trouble::Failed) => return Err(Failure::Write(Part::Marked)),
         Err(Trouble::NoMemory) => return Err(Failure::NoMemory),
     };
     match write_marked(files, arrivals.file, marked, &arrivals.given, marker) {
-        Ok(()) => Ok(Done::Conditioned),
+        Ok(()) => Ok(Done::Done),
         Err(why) => Err(unmarked_failure(why)),
     }
-}
-
-// Opens the arrivals, and writes what the conditioners of an interface that the configuration gives make of them.
-#[tactic(auto, using(play_base::proofs::ViewLaws::same_trans, play_base::proofs::ViewLaws::same_refl))]
-fn condition_found<F: Files>(
-    alloc: Global,
-    files: &mut F,
-    words: &ConditionWords<'_>,
-    found: &Interface,
-) -> Result<Done, Failure>
-    requires distinct { AreDistinctMarks words.now.config.now words.now.arrivals.now words.now.marked.now }
-    requires fits { IsInterface found.now }
-    ensures ends { (u : View) → EndsAtConfig u (F.view files.old) words.now.config.now
-        → Accepts u words.now.config.now words.now.interface.now found.now
-        → SameCounts u (F.view files.old) → ConditionEnds u (F.view files.new) (mark_names_of words.now) result }
-    ensures silent { (F.view files.new).said ≡ (F.view files.old).said }
-{
-    let arrivals = match open_arrivals(alloc, files, words.arrivals) {
-        Ok(arrivals) => arrivals,
-        Err(failure) => return Err(failure),
-    };
-    let Ok(mut marker) = marker_for(alloc, found, &arrivals.given) else {
-        return Err(Failure::NoMemory);
-    };
-    mark_opened(files, words, &arrivals, &mut marker)
 }
 
 /// Writes under the name of the marked arrivals what the conditioners of an interface make of the arrivals: each record with the code
 /// point that its class's meter gives its frame, and the same bytes where the interface has none. A pcapng file is written as the
 /// classic capture of its packets.
 ///
-/// The configuration is read, then the arrivals are opened, of a pcapng file all is read and converted, and then the marked arrivals are
-/// created; they are written as the arrivals are read, in pieces of up to 262,160 bytes. It fails as `Configuration` at the first fault
-/// of its text, or at line 0 where the interface is absent; as `Capture` or `Pcapng` at the first fault of the arrivals; as `Limit` where
-/// the configuration or the arrivals are too long; as `Read` where one of them is absent or a read of it fails; as `Write` of the marked
-/// arrivals where they cannot be created or written; and as `NoMemory`. After `Capture`, `Limit` and a failed read they hold the head
-/// and all complete records before that, marked, and nothing behind them. Prints nothing. Takes time in proportion to the arrivals, and
-/// memory for one record, a pcapng file and its conversion apart.
+/// The inputs are read, of a pcapng file all, and then the marked arrivals are created; they are written as the arrivals are read, in
+/// pieces of up to 262,160 bytes. It fails where the inputs stop it; as `Capture` at the first fault of the arrivals, or where they are
+/// too long; as `Read` of the arrivals where a read of them fails; as `Write` of the marked arrivals where they cannot be created or
+/// written; and as `NoMemory`. After `Capture` and a failed read they hold the head and all complete records before that, marked, and
+/// nothing behind them. Prints nothing. Takes time in proportion to the arrivals, and memory for one record, a pcapng file and its
+/// conversion apart.
 #[tactic(auto, using(play_base::proofs::ViewLaws::same_trans, play_base::proofs::ViewLaws::same_refl))]
 pub fn condition<F: Files>(
     alloc: Global,
@@ -114,16 +92,21 @@ pub fn condition<F: Files>(
     words: &ConditionWords<'_>,
 ) -> Result<Done, Failure>
     requires distinct { AreDistinctMarks words.now.config.now words.now.arrivals.now words.now.marked.now }
-    ensures ends { ConditionEnds (F.view files.old) (F.view files.new) (mark_names_of words.now) result }
-    ensures silent { (F.view files.new).said ≡ (F.view files.old).said }
+    ensures { ConditionEnds (F.view files.old) (F.view files.new) (mark_names_read words.now) result }
 {
     configurations_fit();
-    let conf = match read_conf(alloc, files, words.config) {
-        Ok(conf) => conf,
-        Err(fault) => return Err(fault.failure()),
+    let asking = Asking {
+        config: words.config,
+        interface: words.interface,
+        next: None,
     };
-    let Some(found) = conf.interface(words.interface) else {
-        return Err(Failure::Configuration(absent()));
+    let (conf, arrivals) = match read_inputs(alloc, files, &asking, words.arrivals) {
+        Ok(had) => had,
+        Err(unready) => return Err(unready_failure(Link::Sole, unready)),
     };
-    condition_found(alloc, files, words, found)
+    let interface = found(&conf.conf, words.interface);
+    let Ok(mut marker) = marker_for(alloc, interface, &arrivals.given) else {
+        return Err(Failure::NoMemory);
+    };
+    mark_had(files, words, &arrivals, &mut marker)
 }

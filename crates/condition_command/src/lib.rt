@@ -1,7 +1,6 @@
 //! The command `condition`: writing what the conditioners of an interface make of a capture (RFC 2475).
 #![tactic(auto)]
 
-mod arrivals;
 mod conditioning;
 mod marking;
 

@@ -12,10 +12,12 @@ use Rattle.traffic_marks.specs.Marked.{Conditioning, frames, marked, rule_of}
 use Rattle.traffic_marks.proofs.Reading.{keeps_reading}
 use Rattle.marked_files.specs.Metering.{conditioners_from}
 use Rattle.interface_marks.specs.Conditioners.{conditioning_of, marked_in}
-use Rattle.command_base.specs.Names.{Names}
-use Rattle.condition_command.specs.Conditioning.{HasConditioned, HoldsWhole, MarkNames}
+use Rattle.command_form.specs.Names.{MarkNames, Names}
+use Rattle.condition_command.specs.Conditioning.{HasConditioned, HoldsWhole}
+use Rattle.interface_play.specs.Source.{Source, played_of}
 use Rattle.play_base.specs.View.{View}
-use Rattle.play_command.specs.Played.{Accepted, HasPlayed}
+use Rattle.play_command.specs.Headline.{HasPlayed}
+use Rattle.run_inputs.specs.Says.{Given}
 use Rattle.conditioned_laws.specs.Conforming.{AreMetered, ComesMetered, HoldsMetered, MakesMetered}
 use Rattle.conditioned_laws.proofs.Carried.{is_metered}
 
@@ -70,20 +72,18 @@ comes_metered i capture made last is_last reads =
     }
 
 -- what the commands read
-pub conditioned_metered : (old new : View) (n : MarkNames) (x : HasConditioned old new n) → HoldsMetered x.found x.records new n.marked
-conditioned_metered old new n x =
-    let made = makes_metered x.found x.capture x.records End tt x.whole in
-    record { bytes = marked_in x.found x.capture; at = x.marked; made = made.made; capture = made.reads; metered = made.metered }
+pub conditioned_metered : (new : View) (n : MarkNames) (i : Interface) (g : Given) (x : HasConditioned new n i g) → HoldsMetered i x.records new n.marked
+conditioned_metered new n i g x =
+    let made = makes_metered i g.capture x.records End tt x.whole in
+    record { bytes = marked_in i g.capture; at = x.marked; made = made.made; capture = made.reads; metered = made.metered }
 
-pub whole_metered : (new : View) (n : MarkNames) (found : Interface) (capture : List ℕ) (last : Step) → IsLast last
-    → (x : HoldsWhole new n found capture last) → MakesMetered found capture x.whole.records last
-whole_metered new n found capture last is_last x = makes_metered found capture x.whole.records last is_last x.whole.reads
+pub whole_metered : (new : View) (n : MarkNames) (i : Interface) (capture : List ℕ) (last : Step) → IsLast last
+    → (x : HoldsWhole new n i capture last) → MakesMetered i capture x.whole.records last
+whole_metered new n i capture last is_last x = makes_metered i capture x.whole.records last is_last x.whole.reads
 
-pub accepted_metered : (v : View) (n : Names) (x : Accepted v n) (made : List Record) (last : Step) → IsLast last → Reads x.bytes made last
-    → ComesMetered x.interface x.read.capture made last
-accepted_metered v n x made last is_last reads =
-    comes_metered x.interface x.read.capture made last is_last (subst (λ (bytes : List ℕ). Reads bytes made last) x.read.marked reads)
+pub source_metered : (s : Source) (made : List Record) (last : Step) → IsLast last → Reads (played_of s) made last
+    → ComesMetered s.interface s.capture made last
+source_metered s made last is_last reads = comes_metered s.interface s.capture made last is_last reads
 
-pub played_metered : (old new : View) (n : Names) (seed : ℕ) (x : HasPlayed old new n seed)
-    → ComesMetered x.accepted.interface x.accepted.read.capture x.played.records End
-played_metered old new n seed x = accepted_metered old n x.accepted x.played.records End tt x.played.capture
+pub played_metered : (old new : View) (n : Names) (seed : ℕ) (x : HasPlayed old new n seed) → ComesMetered x.interface x.given.capture x.played.records End
+played_metered old new n seed x = comes_metered x.interface x.given.capture x.played.records End tt x.played.capture

@@ -4,12 +4,14 @@
 
 ghost use Rattle.std.specs.Prelude.{◌≡◌, ℕ, List, Some};
 ghost use Rattle.capture_model.specs.Capture.{End, IsLast, Reads, Record, Step};
-ghost use Rattle.command_base.specs.Names.{Names};
-ghost use Rattle.condition_command.specs.Conditioning.{HasConditioned, HoldsWhole, MarkNames};
+ghost use Rattle.command_form.specs.Names.{MarkNames, Names};
+ghost use Rattle.condition_command.specs.Conditioning.{HasConditioned, HoldsWhole};
 ghost use Rattle.conf_tree.specs.declared.interface.Interface.{Interface};
 ghost use Rattle.interface_marks.specs.Conditioners.{marked_in};
 ghost use Rattle.play_base.specs.View.{View};
-ghost use Rattle.play_command.specs.Played.{Accepted, HasPlayed};
+ghost use Rattle.interface_play.specs.Source.{Source, played_of};
+ghost use Rattle.play_command.specs.Headline.{HasPlayed};
+ghost use Rattle.run_inputs.specs.Says.{Given};
 ghost use Rattle.traffic_meter.specs.declared.rule.MeterRule.{MeterRule};
 ghost use Rattle.traffic_marks.specs.Laws.{recaptured};
 ghost use Rattle.traffic_marks.specs.Marked.{Conditioning, frames, rule_of};
@@ -37,14 +39,15 @@ pub fn metered_packets_conform()
 
 /// So it is of what the commands read. `conditioned`: where `condition` is done, the marked file holds a capture that was made so of the
 /// arrivals' records. `whole`: where it stops earlier, the marked file holds a front of a marked capture, whose complete records were made
-/// so. `accepted`: the records that `play` reads, to whatever end, were made so of those that came. `played`: so were those of a play
-/// that is done.
+/// so. `source`: the records that a play reads, to whatever end, were made so of those that came. `played`: so were those of a play that
+/// is done.
 pub fn conditioned_captures_conform()
-    ensures conditioned { (old new : View) (n : MarkNames) (x : HasConditioned old new n) → HoldsMetered x.found x.records new n.marked }
-    ensures whole { (new : View) (n : MarkNames) (found : Interface) (capture : List ℕ) (last : Step) → IsLast last
-        → (x : HoldsWhole new n found capture last) → MakesMetered found capture x.whole.records last }
-    ensures accepted { (v : View) (n : Names) (x : Accepted v n) (made : List Record) (last : Step) → IsLast last → Reads x.bytes made last
-        → ComesMetered x.interface x.read.capture made last }
+    ensures conditioned { (new : View) (n : MarkNames) (i : Interface) (g : Given) (x : HasConditioned new n i g)
+        → HoldsMetered i x.records new n.marked }
+    ensures whole { (new : View) (n : MarkNames) (i : Interface) (capture : List ℕ) (last : Step) → IsLast last
+        → (x : HoldsWhole new n i capture last) → MakesMetered i capture x.whole.records last }
+    ensures source { (s : Source) (made : List Record) (last : Step) → IsLast last → Reads (played_of s) made last
+        → ComesMetered s.interface s.capture made last }
     ensures played { (old new : View) (n : Names) (seed : ℕ) (x : HasPlayed old new n seed)
-        → ComesMetered x.accepted.interface x.accepted.read.capture x.played.records End }
+        → ComesMetered x.interface x.given.capture x.played.records End }
 {}

@@ -1,5 +1,3 @@
+pub mod ArrivalsLemmas
 pub mod MadeLemmas
 pub mod MakeLemmas
-pub mod SuppliedLemmas
-pub mod TellLemmas
-pub mod WrittenLemmas

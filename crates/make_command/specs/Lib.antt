@@ -1,3 +1,3 @@
-pub mod Making
-pub use Rattle.command_base.specs.Names
-pub use Rattle.play_command.specs.Played
+pub mod Ending
+pub mod Made
+pub use Rattle.command_form.specs.Names

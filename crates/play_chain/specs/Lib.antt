@@ -1,3 +1,4 @@
+pub mod Keeping
 pub mod Path
 pub mod Rows
 pub mod Stands

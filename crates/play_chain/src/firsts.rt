@@ -5,7 +5,6 @@ ghost use Rattle.play_chain.specs.Tables.{IsFirstTable, first_by, first_in};
 
 use altq_model::Fate;
 use play_base::NoMemory;
-use play_loop::{Keeper, KeptFate};
 use std::alloc::Global;
 
 /// What a first play made of a packet, with its arrival in nanoseconds.
@@ -20,7 +19,7 @@ pub enum First {
 }
 
 /// The fates of a first play in a table by their numbers, of 24 bytes for each number up to the greatest and the room by which a `Vec`
-/// grows; no clause bounds that. As a `Keeper` it is told them by the play.
+/// grows; no clause bounds that.
 #[derive(Drop)]
 pub struct Firsts {
     pub(crate) rows: Vec<First>,
@@ -69,18 +68,6 @@ impl Firsts {
             }
         }
         Ok(())
-    }
-}
-
-impl Keeper for Firsts {
-    ghost use Rattle.play_chain.specs.Tables.{HoldsFirsts};
-
-    ghost told = { λ s ks. HoldsFirsts s ks };
-
-    ghost before = { λ s. [] };
-
-    fn keep(&mut self, fate: KeptFate) -> Result<(), NoMemory> {
-        self.add(fate.number, fate.arrival, &fate.fate)
     }
 }
 

@@ -3,6 +3,7 @@
 #![tactic(auto)]
 
 mod firsts;
+mod keeping;
 mod laws;
 mod outcome;
 mod path;
@@ -12,6 +13,7 @@ mod table;
 mod worked;
 
 pub use firsts::{First, Firsts};
+pub use keeping::Tables;
 pub use laws::kept_journals_are_journals;
 pub use outcome::{Outcome, Passage};
 pub use path::Path;

@@ -6,7 +6,6 @@ ghost use Rattle.play_chain.specs.Tables.{IsSecondTable, second_in, second_row};
 
 use altq_model::Fate;
 use play_base::NoMemory;
-use play_loop::{Keeper, KeptFate};
 use std::alloc::Global;
 
 /// What a second play made of a packet.
@@ -21,7 +20,7 @@ pub enum Second {
 }
 
 /// The fates of a second play in a table by their numbers there, of 16 bytes for each number up to the greatest and the room by which a
-/// `Vec` grows; no clause bounds that. As a `Keeper` it is told them by the play.
+/// `Vec` grows; no clause bounds that.
 #[derive(Drop)]
 pub struct Seconds {
     pub(crate) rows: Vec<Second>,
@@ -41,25 +40,13 @@ impl Seconds {
     }
 
     // Adds a fate of a number. The only error is lack of memory, and then none is added.
-    fn add(&mut self, number: u64, fate: &Fate) -> Result<(), NoMemory>
+    pub(crate) fn add(&mut self, number: u64, fate: &Fate) -> Result<(), NoMemory>
         ensures { OnOk result ((js : List Decision) → IsSecondTable self.old js → fate_under js number ≡ None
             → IsSecondTable self.new (js ++ (number, fate.now) ∷ [])) }
     {
         make_room(&mut self.rows, number)?;
         set_row(&mut self.rows, number, row_of(fate));
         Ok(())
-    }
-}
-
-impl Keeper for Seconds {
-    ghost use Rattle.play_chain.specs.Tables.{HoldsSeconds};
-
-    ghost told = { λ s ks. HoldsSeconds s ks };
-
-    ghost before = { λ s. [] };
-
-    fn keep(&mut self, fate: KeptFate) -> Result<(), NoMemory> {
-        self.add(fate.number, &fate.fate)
     }
 }
 

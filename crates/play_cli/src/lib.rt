@@ -1,8 +1,6 @@
-//! All that the program does: it reads the words, runs the command that they name, prints its message and gives the status.
+//! All that the program does: it reads the words, runs the command that they name, and prints its message.
 #![tactic(auto)]
 
-mod commands;
 mod program;
 
-pub use command_base::Status;
-pub use program::{run, run_steady};
+pub use program::{Ran, run, run_read, steady_runs_meet_no_fault};

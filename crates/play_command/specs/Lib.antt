@@ -1,12 +1,3 @@
-pub mod Converting
-pub mod Discipline
 pub mod Ending
-pub mod Found
-pub mod InterfaceSetup
-pub mod Laws
-pub mod Order
-pub mod Played
-pub mod Supplied
-pub use Rattle.command_base.specs.Configuration
-pub use Rattle.command_base.specs.Names
-pub use Rattle.play_files.specs.Failing
+pub mod Headline
+pub use Rattle.command_form.specs.Names

@@ -4,11 +4,12 @@ use crate::line::line;
 use std::alloc::{AllocError, Global};
 
 /// The version of the program. CHANGELOG.md has what each brought.
-pub const VERSION: &str = "0.2";
+pub const VERSION: &str = "0.3";
 
 // The commands with their options, each on a line.
 const COMMANDS: &str = concat!(
     "altqplay %: check --config FILE --interface NAME\n",
+    "  bound --config FILE --interface NAME --longest L --burst B\n",
     "  play --config FILE --interface NAME --arrivals FILE --departures FILE --fates FILE --stats FILE --seed N\n",
     "  shares with the options of play\n",
     "  chain with the options of play and --next NAME --departures2 FILE --fates2 FILE --stats2 FILE --path FILE\n",

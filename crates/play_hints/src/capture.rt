@@ -1,10 +1,22 @@
 // What is wrong with a capture.
 
 use crate::line::line;
+use capture_model::{Damage, DamageKind};
+use pcapng_model::NgKind;
+use run_outcomes::CaptureStop;
 use std::alloc::{AllocError, Global};
 
 // What a pcapng file begins with.
-pub(crate) const PCAPNG: &[u8] = b"\n\r\r\n";
+const PCAPNG: &[u8] = b"\n\r\r\n";
+
+const LONG_PCAPNG: &str =
+    "@: more than 4000000 records, or 2^30 bytes: nothing was created; cut it: editcap -F nsecpcap -c 4000000 @ part.pcap";
+
+const LONG: &str =
+    "@: more than 4000000 records, or 2^30 bytes: all before was decided; cut it: editcap -F nsecpcap -c 4000000 @ part.pcap";
+
+const LATE: &str =
+    "@: a packet would end at 2^32 seconds or later: all before was decided; set the stamps back: editcap -F nsecpcap -t -SECONDS @ earlier.pcap";
 
 const MODIFIED: &str = "@: modified libpcap: convert it first: editcap -F nsecpcap @ out.pcap";
 
@@ -64,68 +76,89 @@ fn link_form(link: u64) -> &'static str {
     }
 }
 
-// What to say of a damage of a kind of status 4 at a place, and its numbers.
-fn damage_form(head: &[u8], place: u64, kind: u8) -> (&'static str, [u64; 2]) {
-    match kind {
-        1 => (
+// What to say of a damage, and its numbers.
+fn damage_form(head: &[u8], damage: Damage) -> (&'static str, [u64; 2]) {
+    let place = damage.place;
+    match damage.kind {
+        DamageKind::ShortHead => (
             "@: # bytes, a capture has 24 at least: was it written to its end?",
             [place, 0],
         ),
-        2 => (magic_form(head), [0, 0]),
-        3 => (
+        DamageKind::BadMagic => (magic_form(head), [0, 0]),
+        DamageKind::BadVersion => (
             "@: version #.#: need 2.4: editcap -F nsecpcap @ out.pcap",
             [number_at(head, 4), number_at(head, 6)],
         ),
-        4 => {
+        DamageKind::BadLink => {
             let link = number_at(head, if head.starts_with(&[0xa1]) { 22 } else { 20 });
             (link_form(link), [link, 0])
         }
-        5 => (
+        DamageKind::ShortRecord => (
             "@: the record at byte # is cut: all before it was decided; statistics stay empty",
             [place, 0],
         ),
-        6 => (
+        DamageKind::EmptyRecord => (
             "@: the record at byte # has no length: all before it was decided; statistics stay empty",
             [place, 0],
         ),
-        _ => (
+        DamageKind::LongRecord => (
             "@: the record at byte # is longer than 262144 bytes: all before it was decided; is the file damaged?",
             [place, 0],
         ),
     }
 }
 
-// What is wrong with a block of a pcapng file, of which nothing was played, and what to do, by the kind of status 4.
-fn block_fault(kind: u8) -> &'static str {
+// What is wrong with a block of a pcapng file, of which nothing was played, and what to do.
+fn block_fault(kind: NgKind) -> &'static str {
     match kind {
-        2 => "tells no order of bytes: is the file damaged?",
-        3 => "is of another version than 1: convert it first: editcap -F nsecpcap",
-        4 => "is a packet of no Ethernet: use altqwork convert",
-        6 => "is a packet without length: is the file damaged?",
-        7 => "is a packet of more than 262144 bytes: is the file damaged?",
-        9 => "is cut: was it written to its end?",
-        10 => "is a packet of an interface that is not there: is the file damaged?",
-        11 => "is a packet before 1970 or after 2106: shift it: editcap -t SECONDS",
-        12 =>
+        NgKind::BadMagic => "tells no order of bytes: is the file damaged?",
+        NgKind::BadVersion => "is of another version than 1: convert it first: editcap -F nsecpcap",
+        NgKind::BadLink => "is a packet of no Ethernet: use altqwork convert",
+        NgKind::EmptyRecord => "is a packet without length: is the file damaged?",
+        NgKind::LongRecord => "is a packet of more than 262144 bytes: is the file damaged?",
+        NgKind::ShortBlock => "is cut: was it written to its end?",
+        NgKind::UnknownInterface =>
+            "is a packet of an interface that is not there: is the file damaged?",
+        NgKind::BadStamp => "is a packet before 1970 or after 2106: shift it: editcap -t SECONDS",
+        NgKind::BadResolution =>
             "is an interface of a finer clock than 10^-18 or 2^-63 s: convert it first: editcap -F nsecpcap",
-        13 => "is an obsolete or a simple packet: convert it first: editcap -F nsecpcap",
-        _ => "is malformed: is the file damaged?",
+        NgKind::OldPacket =>
+            "is an obsolete or a simple packet: convert it first: editcap -F nsecpcap",
+        NgKind::BadBlock => "is malformed: is the file damaged?",
     }
 }
 
-/// What to say of a capture with a damage at a place, of a kind of status 4, by its first bytes, of which 24 tell all. `Err` comes
-/// only where there is no memory.
+/// What to say of a capture with this fault, or whose play ends so, by its first bytes, of which 24 tell all. `Err` comes only where there is
+/// no memory.
 pub fn capture_hint(
     alloc: Global,
     name: &str,
     head: &[u8],
-    place: u64,
-    kind: u8,
+    stop: CaptureStop,
 ) -> Result<String, AllocError> {
-    if head.starts_with(PCAPNG) {
-        let fault = block_fault(kind).as_bytes();
-        return line(alloc, "@: the block at byte # %", name, fault, &[place]);
+    match stop {
+        CaptureStop::Damage(damage) => {
+            let (form, numbers) = damage_form(head, damage);
+            line(alloc, form, name, head.get(..8).unwrap_or(head), &numbers)
+        }
+        CaptureStop::Block(block) => {
+            let fault = block_fault(block.kind).as_bytes();
+            line(
+                alloc,
+                "@: the block at byte # %",
+                name,
+                fault,
+                &[block.place],
+            )
+        }
+        CaptureStop::TooLong if head.starts_with(PCAPNG) => line(
+            alloc,
+            LONG_PCAPNG,
+            name,
+            b"",
+            &[],
+        ),
+        CaptureStop::TooLong => line(alloc, LONG, name, b"", &[]),
+        CaptureStop::Late => line(alloc, LATE, name, b"", &[]),
     }
-    let (form, numbers) = damage_form(head, place, kind);
-    line(alloc, form, name, head.get(..8).unwrap_or(head), &numbers)
 }

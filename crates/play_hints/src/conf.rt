@@ -3,46 +3,9 @@
 use crate::fault::{FOREIGN, STATEMENTS, fault_form, row_of, word_at};
 use crate::line::{add_form, shown_byte};
 use crate::options::slot_at;
-use conf_lines::{ConfKind, Slots};
+use conf_lines::{ConfKind, ConfPlace, Slots};
 use line_text::{Line, Token, next_line, words};
 use std::alloc::{AllocError, Global};
-
-/// Where a configuration is refused, and by which kind, as status 3 says it.
-#[derive(Clone, Copy)]
-pub struct ConfAt {
-    pub line: u64,
-    pub word: u64,
-    pub kind: u8,
-}
-
-// All kinds of faults, in the order of their numbers.
-const KINDS: [ConfKind; 25] = [
-    ConfKind::UnknownWord,
-    ConfKind::MissingWord,
-    ConfKind::BadNumber,
-    ConfKind::RateRange,
-    ConfKind::BadAddress,
-    ConfKind::BadByte,
-    ConfKind::TooLong,
-    ConfKind::InterfaceTwice,
-    ConfKind::NoInterface,
-    ConfKind::WrongDiscipline,
-    ConfKind::NameTaken,
-    ConfKind::NoParent,
-    ConfKind::TwoRoots,
-    ConfKind::TooDeep,
-    ConfKind::TooManyClasses,
-    ConfKind::TooManyFilters,
-    ConfKind::TooManyInterfaces,
-    ConfKind::ConvexFirst,
-    ConfKind::NoShare,
-    ConfKind::RealTimeInside,
-    ConfKind::InnerQueue,
-    ConfKind::TwoDefaults,
-    ConfKind::NoDefault,
-    ConfKind::NoClass,
-    ConfKind::ConditionerTwice,
-];
 
 // The greatest column at which a line is shown from its first byte.
 const WIDE: usize = 60;
@@ -219,13 +182,12 @@ fn add_fault(
 fn add_hint(
     said: &mut String,
     name: &str,
-    place: ConfAt,
-    kind: ConfKind,
+    place: ConfPlace,
     bytes: &[u8],
     words: &[Token],
 ) -> Result<(), AllocError> {
     let at = place.word.wrapping_sub(1) as usize;
-    add_fault(said, name, place.line, kind, words, at)?;
+    add_fault(said, name, place.line, place.kind, words, at)?;
     if place.word == 0 {
         return Ok(());
     }
@@ -244,12 +206,11 @@ fn add_line_hint(
     alloc: Global,
     said: &mut String,
     name: &str,
-    place: ConfAt,
-    kind: ConfKind,
+    place: ConfPlace,
     bytes: &[u8],
 ) -> Result<(), AllocError> {
     let words = words_of(alloc, bytes);
-    add_hint(said, name, place, kind, bytes, &words)
+    add_hint(said, name, place, bytes, &words)
 }
 
 /// What to say of a configuration that is refused: its name and line, the word at fault, what is wrong and what to write; below it
@@ -260,16 +221,15 @@ pub fn conf_hint(
     name: &str,
     interface: &str,
     text: &[u8],
-    place: ConfAt,
+    place: ConfPlace,
 ) -> Result<String, AllocError> {
     let mut said = String::new(alloc);
     if place.line == 0 {
         add_absent(alloc, &mut said, name, interface.as_bytes(), text)?;
         return Ok(said);
     }
-    let kind = KINDS.get(usize::from(place.kind.wrapping_sub(1)));
-    if let (Some(kind), Some(bytes)) = (kind, logical_line(text, place.line)) {
-        add_line_hint(alloc, &mut said, name, place, *kind, bytes)?;
+    if let Some(bytes) = logical_line(text, place.line) {
+        add_line_hint(alloc, &mut said, name, place, bytes)?;
     }
     Ok(said)
 }

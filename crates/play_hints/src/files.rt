@@ -1,7 +1,8 @@
 // What is wrong with the files of a run, and what was counted of one that is done.
 
-use crate::capture::PCAPNG;
 use crate::line::line;
+use file_plans::Part;
+use file_tests::Test;
 use std::alloc::{AllocError, Global};
 
 /// What is said where memory ran out; it takes none.
@@ -17,38 +18,34 @@ pub fn file_hint(alloc: Global, name: &str, fault: &str) -> Result<String, Alloc
     line(alloc, "@: %", name, fault.as_bytes(), &[])
 }
 
-/// What to say of a file that passes a limit, by the kind of status 7, and of a capture by its first bytes.
-pub fn limit_hint(alloc: Global, name: &str, head: &[u8], kind: u8) -> Result<String, AllocError> {
-    let form = match kind {
-        1 if head.starts_with(PCAPNG) => {
-            "@: more than 4000000 records, or 2^30 bytes: nothing was created; cut it: editcap -F nsecpcap -c 4000000 @ part.pcap"
+/// What to say of a configuration or of a given file that is too long.
+pub fn long_hint(alloc: Global, name: &str, part: Part) -> Result<String, AllocError> {
+    let form = match part {
+        Part::Configuration => {
+            "@: more than 1048576 bytes: is it a configuration? if so leave out its comments"
         }
-        1 => {
-            "@: more than 4000000 records, or 2^30 bytes: all before was decided; cut it: editcap -F nsecpcap -c 4000000 @ part.pcap"
-        }
-        2 => {
-            "@: a packet would end at 2^32 seconds or later: all before was decided; set the stamps back: editcap -F nsecpcap -t -SECONDS @ earlier.pcap"
-        }
-        3 => "@: more than 1048576 bytes: is it a configuration? if so leave out its comments",
         _ => "@: more than 2^30 bytes: check a shorter play",
     };
     line(alloc, form, name, b"", &[])
 }
 
-/// What to say of a given file that fails a test, by its number, at a row of the fates, the head row being row 0. `Err` comes only where
+/// What to say of a given file that fails a test at a row of the fates, the head row being row 0. `Err` comes only where
 /// there is no memory.
-pub fn refuted_hint(alloc: Global, name: &str, row: u64, test: u8) -> Result<String, AllocError> {
+pub fn refuted_hint(alloc: Global, name: &str, row: u64, test: Test) -> Result<String, AllocError> {
     let broken = match test {
-        1 => "no row as a play writes it: number,arrival,length,class,fate,start,end",
-        2 => "number, arrival, length or class is not that packet's, or its class has no such fate",
-        3 => "the number stands twice, or a number is missing",
-        4 =>
+        Test::Text => "no row as a play writes it: number,arrival,length,class,fate,start,end",
+        Test::Reading =>
+            "number, arrival, length or class is not that packet's, or its class has no such fate",
+        Test::EachOnce => "the number stands twice, or a number is missing",
+        Test::Order =>
             "out of order: in a class sendings and drops go by number, starts do not fall, and a drop stands where its packet arrives",
-        5 => "the start is before the arrival, or before the end of the sending before it",
-        6 => "the end is not that of the link's rate",
-        7 => "the link idled before this start while a packet waited",
-        8 => "its departure is not the packet with this end, or one is missing or left over",
-        _ => "it ends more than the longest packet's time after its due moment",
+        Test::Moments =>
+            "the start is before the arrival, or before the end of the sending before it",
+        Test::Ends => "the end is not that of the link's rate",
+        Test::Busy => "the link idled before this start while a packet waited",
+        Test::Departures =>
+            "its departure is not the packet with this end, or one is missing or left over",
+        Test::Due => "it ends more than the longest packet's time after its due moment",
     };
     line(alloc, "@: row #: %", name, broken.as_bytes(), &[row])
 }

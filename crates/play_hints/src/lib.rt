@@ -12,6 +12,6 @@ mod words;
 
 pub use calling::VERSION;
 pub use capture::capture_hint;
-pub use conf::{ConfAt, conf_hint};
-pub use files::{NO_UTF8, OUT_OF_MEMORY, file_hint, limit_hint, play_line, refuted_hint};
+pub use conf::conf_hint;
+pub use files::{NO_UTF8, OUT_OF_MEMORY, file_hint, long_hint, play_line, refuted_hint};
 pub use words::words_hint;

@@ -5,7 +5,7 @@ use crate::line::{add_form, line};
 use clap::error::ErrorKind;
 use clap::{ArgMatches, Error};
 use line_text::decimal;
-use play_words::{count, options_read};
+use play_words::{number_to, options_read};
 use std::alloc::{AllocError, Global};
 
 // The options that name files.
@@ -25,7 +25,8 @@ const FILES: [&str; 10] = [
 // The words that ask how the program is called.
 const FOR_USAGE: [&str; 5] = ["--help", "-h", "help", "--version", "-V"];
 
-const NO_COMMAND: &str = "%: no command: check, play, shares, chain, make, verify or condition";
+const NO_COMMAND: &str =
+    "%: no command: check, bound, play, shares, chain, make, verify or condition";
 
 // Adds a part of clap's text, its lines parted by blanks, behind a semicolon where another stands before it; nothing where it says how
 // the program is called.
@@ -77,16 +78,42 @@ fn twins<'a>(matches: &ArgMatches<'a>) -> Option<(&'static str, &'static str, &'
     None
 }
 
+// The options that are numbers from 1, each with the most that it may be, and what is said of any other text.
+const NUMBERS: [(&str, u32, &str); 3] = [
+    (
+        "count",
+        1_000_000,
+        "--count %: no such count: decimal digits, 1 to 1000000, as 1000",
+    ),
+    (
+        "longest",
+        262_144,
+        "--longest %: no such length: decimal digits, 1 to 262144, as 1514",
+    ),
+    (
+        "burst",
+        1_073_741_824,
+        "--burst %: no such burst: decimal digits, 1 to 1073741824, as 15000",
+    ),
+];
+
+// What is said of the first of these options that is no such number, and its text.
+fn bad_number<'a>(matches: &ArgMatches<'a>) -> Option<(&'static str, &'a str)> {
+    for (name, most, form) in NUMBERS {
+        if let Some(text) = matches.get_str(name) {
+            if number_to(text, most).is_none() {
+                return Some((form, text));
+            }
+        }
+    }
+    None
+}
+
 // What is wrong with options that clap takes.
 fn values_hint(alloc: Global, matches: &ArgMatches<'_>) -> Result<String, AllocError> {
-    let (form, text) = match (matches.get_str("count"), matches.get_str("seed")) {
-        (Some(text), _) if count(text).is_none() => {
-            (
-                "--count %: no such count: decimal digits, 1 to 1000000, as 1000",
-                text,
-            )
-        }
-        (_, Some(text)) if decimal(text.as_bytes()).is_none() => {
+    let (form, text) = match (bad_number(matches), matches.get_str("seed")) {
+        (Some(bad), _) => bad,
+        (None, Some(text)) if decimal(text.as_bytes()).is_none() => {
             (
                 "--seed %: no number: decimal digits below 18446744073709551616, as 42",
                 text,

@@ -1,5 +1,5 @@
 -- What calls one after another leave as it was.
-use Rattle.std.proofs.Common.{◌≡◌, ◌≢◌, ◌∙◌, ℕ, List, Ok, Err, refl, ap, sym}
+use Rattle.std.proofs.Common.{◌≡◌, ◌≢◌, ◌++◌, ◌∙◌, ℕ, List, [], Ok, Err, refl, ap, sym, append_assoc}
 use Rattle.std.specs.Prelude.{IsErrOf, IsSome}
 use Rattle.play_base.specs.declared.trouble.Trouble.{Trouble}
 use Rattle.play_base.specs.declared.trouble.Trouble.TheVariants as trouble
@@ -11,7 +11,7 @@ use Rattle.play_loop.specs.declared.fault.Output.TheVariants as output
 use Rattle.play_loop.specs.declared.fault.PlayFault.{PlayFault}
 use Rattle.play_loop.specs.declared.fault.PlayFault.TheVariants as play
 use Rattle.play_loop.specs.declared.outputs.Outputs.{Outputs}
-use Rattle.play_loop.specs.Kept.{IsOther, OnlyWrote, OnlyPlayed}
+use Rattle.play_loop.specs.Kept.{HasTailLeft, IsOther, OnlyWrote, OnlyPlayed}
 use Rattle.play_loop.specs.Outputs.{AddsOnly, AreOpened, HasTexts, IsWriteCause, SameFiles, TextsAre, output_fault}
 use Rattle.play_loop.specs.Played.{AreReady}
 use Rattle.play_loop.proofs.OutputLemmas.{same_trans}
@@ -121,17 +121,36 @@ module _ {A : Type 0} {u v w : View} {a b : Outputs} {x : A} {ds ts : List ℕ} 
 
 -- reads of the arrivals among the writes
 pub played_nothing : (v : View) (arr dep fat : ℕ) → OnlyPlayed arr dep fat v v
-played_nothing v arr dep fat = record { keeps = keeps_refl _ _ v; none = λ f h. h; said = refl }
+played_nothing v arr dep fat = record { keeps = keeps_refl _ _ v; took = λ p at h all l. ([], all, refl, l); none = λ f h. h; said = refl }
 
 played_wrote : {v w : View} (arr : ℕ) {dep fat : ℕ} → OnlyWrote dep fat v w → OnlyPlayed arr dep fat v w
-played_wrote arr x = record { keeps = keeps_fewer _ _ _ _ _ _ (λ n h. h) (λ f h. h.1) x.keeps; none = x.none; said = x.said }
+played_wrote arr x = record {
+  keeps = keeps_fewer _ _ _ _ _ _ (λ n h. h) (λ f h. h.1) x.keeps;
+  took = λ p at h all l. ([], all, refl, x.keeps.left arr p at h ∙ l);
+  none = x.none;
+  said = x.said;
+}
 
 played_took : {v w : View} {arr : ℕ} (dep fat : ℕ) → TookSome v w arr → OnlyPlayed arr dep fat v w
-played_took dep fat x = record { keeps = keeps_fewer _ _ _ _ _ _ (λ n h. tt) (λ f h. h.0) x.1.keeps; none = x.1.none; said = x.1.said }
+played_took dep fat x = record {
+  keeps = keeps_fewer _ _ _ _ _ _ (λ n h. tt) (λ f h. h.0) x.1.keeps;
+  took = λ p at h all l. (let t = x.1.left all l in (x.0, t.0, t.1, t.2));
+  none = x.1.none;
+  said = x.1.said;
+}
+
+-- an end of an end
+pub tail_trans : (u v w : View) (file : ℕ) → HasTailLeft file u v → HasTailLeft file v w → HasTailLeft file u w
+tail_trans u v w file x y = λ all l.
+    let a = x all l in
+    let b = y a.1 a.3 in
+    (a.0 ++ b.0, b.1, a.2 ∙ ap (λ (r : List ℕ). a.0 ++ r) b.2 ∙ sym (append_assoc a.0 b.0 b.1), b.3)
 
 played_more : {u v w : View} {arr dep fat : ℕ} → IsSome (u.part dep) → IsSome (u.part fat) → OnlyPlayed arr dep fat u v → OnlyPlayed arr dep fat v w → OnlyPlayed arr dep fat u w
 played_more {u} {v} {w} {arr} {dep} {fat} is_dep is_fat x y = record {
   keeps = keeps_more (λ f. f ≢ arr) u v w dep fat is_dep is_fat x.keeps y.keeps;
+  took = λ p at h. tail_trans u v w arr (x.took p at h) (y.took p (x.keeps.part arr p at)
+      (other_later u v dep fat _ _ (named _ _ u v dep x.keeps is_dep) (named _ _ u v fat x.keeps is_fat) (x.keeps.name arr p at) h));
   none = λ f h. y.none f (x.none f h);
   said = y.said ∙ x.said;
 }

@@ -1,6 +1,6 @@
 -- The statistics are written behind the other outputs.
-use Rattle.std.proofs.Common.{◌≡◌, ◌++◌, ◌∙◌, inl, inr, ℕ, List, [], take, drop, Ok, Err, ap, sym, subst}
-use Rattle.std.specs.Prelude.{IfOk, IsTrue, Result}
+use Rattle.std.proofs.Common.{◌≡◌, ◌++◌, ◌∙◌, inl, inr, ℕ, List, [], take, drop, refl, ap, sym, subst}
+use Rattle.std.specs.Prelude.{IsTrue}
 use Rattle.altq_model.specs.Arrivals.{Captured}
 use Rattle.altq_model.specs.History.{LabelledEvent}
 use Rattle.capture_model.specs.Capture.{Record, End}
@@ -17,12 +17,13 @@ use Rattle.play_loop.specs.declared.fault.Output.TheVariants as output
 use Rattle.play_loop.specs.declared.fault.PlayFault.{PlayFault}
 use Rattle.play_loop.specs.declared.fault.PlayFault.TheVariants as play
 use Rattle.play_loop.specs.declared.kept.KeptFate.{KeptFate}
-use Rattle.play_loop.specs.Kept.{KeepsBeside, KeepsPlayed}
+use Rattle.play_loop.specs.Kept.{KeepsBeside, KeepsPlayed, OnlyPlayed, TookOnly}
 use Rattle.play_loop.specs.Outputs.{IsBeforeStats, IsStatsCause}
 use Rattle.play_loop.specs.Played.{AreBegun, AreReady, Explains, Fronts, HasStopped, HoldTexts, LeavesStats, Plays, Writes}
 use Rattle.play_loop.specs.Setup.{Setup}
-use Rattle.play_loop.specs.Told.{HasDecided, Tells}
+use Rattle.play_loop.specs.Told.{Tells}
 use Rattle.gathered_writes.proofs.GatherLemmas.{take_drop}
+use Rattle.play_loop.proofs.KeptLemmas.{tail_trans}
 use Rattle.play_loop.proofs.PlayLemmas.{whole_front}
 
 pub keeps_played : {u v : View} (o : Opened) → KeepsBeside o.arrivals o.departures o.fates u v → KeepsPlayed o u v
@@ -30,17 +31,6 @@ keeps_played o k = keeps_fewer _ _ _ _ _ _ (λ n h. (h.0, h.1)) (λ f h. (h.0, (
 
 pub plays_told : (x : Setup) (stood : List LabelledEvent → Type 0) (kept : List KeptFate → Type 0) (u v : View) (o : Opened) (t : Totals) → Tells x stood kept u v o t → Plays x stood u v o t
 plays_told x stood kept u v o t p = λ told rest l. (let y = p told rest l in (y.0, y.1, y.2.played))
-
--- what holds of all that was told
-pub tells_as : (x : Setup) (stood : List LabelledEvent → Type 0) (P Q : List KeptFate → Type 0) (u v : View) (o : Opened) (r : Result Totals PlayFault) → ((ks : List KeptFate) → P ks → Q ks)
-    → IfOk r (Tells x stood P u v o) → IfOk r (Tells x stood Q u v o)
-tells_as x stood P Q u v o (Ok t) h p = λ told rest l. (let y = p told rest l in (y.0, y.1, record { played = y.2.played; told = h _ y.2.told }))
-tells_as x stood P Q u v o (Err e) h p = p
-
-pub decided_as : (x : Setup) (P Q : List KeptFate → Type 0) (r : Result Totals PlayFault) → ((ks : List KeptFate) → P ks → Q ks)
-    → IfOk r (HasDecided x P) → IfOk r (HasDecided x Q)
-decided_as x P Q (Ok t) h d = record { arrived = d.arrived; history = d.history; play = d.play; told = h _ d.told }
-decided_as x P Q (Err e) h d = d
 
 -- a write of the statistics that failed failed for them, or for lack of memory
 by_cause : (P : PlayFault → Type 0) (stats : ℕ) (u v : View) (f : PlayFault) → IsStatsCause stats u v f → (WriteFault u v stats → P (play.Write output.Statistics)) → P play.NoMemory → P f
@@ -156,3 +146,15 @@ module _ {u v : View} {o : Opened} (r : AreReady u o) (k : KeepsBeside o.arrival
 
     pub leaves_stats : (f : PlayFault) → WroteFront v w o.stats (stats_of x.names t.counts.items) → IsStatsCause o.stats v w f → LeavesStats x u w o f
     leaves_stats f s h = by_cause (λ q. LeavesStats x u w o q) o.stats v w f h (λ _. begins_stats s) (inr (begins_stats s))
+
+-- what was taken of the arrivals
+pub took_played : {u v : View} (o : Opened) → AreReady u o → OnlyPlayed o.arrivals o.departures o.fates u v → TookOnly o u v
+took_played {u} o r x = λ h. (let p = part_of_there (u.part o.arrivals) r.arrivals in x.took p.0 p.1 (h.0, h.1))
+
+pub took_written : {u v w : View} {ys : List ℕ} (o : Opened) → AreReady u o → OnlyPlayed o.arrivals o.departures o.fates u v → Wrote v w o.stats ys → TookOnly o u w
+took_written {u} {v} {w} o r x y = λ h.
+    let p = part_of_there (u.part o.arrivals) r.arrivals in
+    let s = part_of_there (u.part o.stats) r.stats.there in
+    let k = x.keeps in
+    tail_trans u v w o.arrivals (x.took p.0 p.1 (h.0, h.1))
+    (λ all l. ([], all, refl, y.keeps.left o.arrivals p.0 (k.part o.arrivals p.0 p.1) (λ e. h.2 (sym (k.name o.arrivals p.0 p.1) ∙ e ∙ k.name o.stats s.0 s.1)) ∙ l))

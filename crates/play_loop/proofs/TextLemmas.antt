@@ -1,6 +1,6 @@
 -- What a sending and an offer add to the texts of a play, and to what is told of it.
-use Rattle.std.proofs.Common.{◌≡◌, ◌++◌, ◌∙◌, ◌+◌, ◌-◌, ℕ, zero, suc, List, [], ◌∷◌, length, take, Some, refl, ap, sym, arith}
-use Rattle.std.proofs.lemmas.List.{append-nil, map-append, take_all}
+use Rattle.std.proofs.Common.{◌≡◌, ◌++◌, ◌∙◌, ◌+◌, ◌-◌, ℕ, zero, suc, List, [], ◌∷◌, Some, refl, ap, sym}
+use Rattle.std.proofs.lemmas.List.{append-nil, map-append}
 use Rattle.std.specs.Prelude.{slice_get, unwrap_or}
 use Rattle.std.specs.Option.{option_map_or}
 use Rattle.altq_model.specs.declared.Placed.{Placed}
@@ -27,9 +27,8 @@ use Rattle.play_core.specs.Going.{numbered}
 use Rattle.play_core.specs.Turns.{departs, packet_of_lent, drop_of}
 use Rattle.play_core.specs.declared.turn.LentPacket.{LentPacket}
 use Rattle.class_counts.specs.Fit.{IsFit, AreFit}
-use Rattle.play_loop.specs.declared.kept.Kept.{Kept}
 use Rattle.play_loop.specs.declared.kept.KeptFate.{KeptFate}
-use Rattle.play_loop.specs.KeptFates.{dropped_fate, fates_in, kept_fate, kept_fates, sent_fate}
+use Rattle.play_loop.specs.KeptFates.{dropped_fate, kept_fate, kept_fates, sent_fate}
 use Rattle.play_loop.specs.Outputs.{record_of, sent_row, dropped_row}
 
 fit_in : (place : List ℕ → Placed) (xs : List Captured) (k : ℕ) (b : Arrival) → AreFit place xs → slice_get (bare_arrivals xs) k ≡ Some b
@@ -153,8 +152,3 @@ told_stays xs ys [] f = refl
 told_stays xs ys (e ∷ g) f =
     let d : List Decision = decided e.label e.what in
     rw (map-append (kept_fate (xs ++ ys)) (journal g) d, told_stays xs ys g f.1, event_stays xs ys e.label e.what f.0) (sym (map-append (kept_fate xs) (journal g) d))
-
--- what was kept before a play
-pub kept_before : (old begun new : Kept) → fates_in begun ≡ fates_in old → begun.before ≡ length (fates_in old) → take new.before (fates_in new) ≡ take begun.before (fates_in begun)
-    → take new.before (fates_in new) ≡ fates_in old
-kept_before old begun new f n e = e ∙ ap (λ (k : ℕ). take k (fates_in begun)) (n ∙ ap (λ (l : List KeptFate). length l) (sym f)) ∙ take_all (length (fates_in begun)) (fates_in begun) (omega arith) ∙ f

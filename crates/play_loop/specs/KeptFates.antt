@@ -7,12 +7,7 @@ use Rattle.altq_model.specs.declared.Fate.TheVariants as fate
 use Rattle.altq_model.specs.History.{Decision}
 use Rattle.play_core.specs.declared.turn.Departure.{Departure}
 use Rattle.play_core.specs.declared.turn.Dropped.{Dropped}
-use Rattle.play_loop.specs.declared.kept.Kept.{Kept}
 use Rattle.play_loop.specs.declared.kept.KeptFate.{KeptFate}
-
--- the fates that are kept, in their order
-abbrev pub fates_in : Kept → List KeptFate
-fates_in k = k.fates.items
 
 -- a decision of a play of these arrivals
 abbrev pub kept_fate : List Captured → Decision → KeptFate

@@ -6,10 +6,9 @@ use Rattle.altq_model.specs.Arrivals.{Captured, bare_arrivals}
 use Rattle.altq_model.specs.Departures.{Dressing}
 use Rattle.altq_model.specs.History.{Arrival, DrawnWords, LabelledEvent, unlabelled, offered, journal}
 use Rattle.altq_model.specs.Lawful.{latest}
-use Rattle.altq_model.specs.Play.{Policy, AreDue, due}
+use Rattle.altq_model.specs.Play.{AreDue, due}
 use Rattle.discipline.specs.View.{DisciplineView}
 use Rattle.play_text.specs.Names.{NameList}
-use Rattle.leaf_queue.specs.declared.node.Entry.{Entry}
 use Rattle.play_base.specs.View.{View}
 use Rattle.play_core.specs.declared.state.Progress.{Progress}
 use Rattle.play_core.specs.Ended.{IsBegun, IsCutOff}

@@ -16,7 +16,7 @@ mod writing;
 
 pub use fault::{Limit, Opened, Output, PlayFault};
 pub use keeper::{Keeper, KeepsNothing};
-pub use kept::{Kept, KeptFate};
+pub use kept::KeptFate;
 pub use outputs::output_fault;
 pub use play_core::Totals;
-pub use playing::{play, play_kept, play_told};
+pub use playing::play_told;

@@ -5,12 +5,12 @@ ghost use Rattle.capture_model.specs.Header.{capture_header};
 ghost use Rattle.altq_model.specs.Lawful.{IsOneOf};
 ghost use Rattle.play_base.specs.View.{NoneAppears, SameCounts, ReadFault};
 ghost use Rattle.discipline.specs.Laws.{HasRate};
+ghost use Rattle.discipline.specs.View.{SameKind};
 ghost use Rattle.play_text.specs.Names.{HasClass};
 ghost use Rattle.play_loop.specs.Answers.{IsAnswer, IsBrokenOff, answer_of};
 ghost use Rattle.class_counts.specs.Counting.{HasCounted};
 ghost use Rattle.play_loop.specs.Ending.{HasBroken, HasRun, IsClean};
-ghost use Rattle.play_loop.specs.Kept.{KeepsPlayed, OnlyPlayed, OnlyWrote};
-ghost use Rattle.play_loop.specs.KeptFates.{fates_in};
+ghost use Rattle.play_loop.specs.Kept.{KeepsPlayed, OnlyPlayed, OnlyWrote, TookOnly};
 ghost use Rattle.play_loop.specs.Outputs.{AreOpened, FrontsAre, IsWriteCause, SameFiles, TextsAre};
 ghost use Rattle.play_loop.specs.Played.{AreEmpty, AreReady, Explains, Fronts, LeavesStats, Plays};
 ghost use Rattle.play_loop.specs.Reading.{CanRead, StartsOn};
@@ -20,8 +20,7 @@ ghost use Rattle.play_loop.specs.Underway.{IsUnderway, moment};
 
 use crate::arriving::arrive;
 use crate::ending::{Due, Ending, capture_fault};
-use crate::keeper::{Keeper, KeepsNothing};
-use crate::kept::Kept;
+use crate::keeper::Keeper;
 use crate::outputs::{Outputs, Tally, output_fault};
 use crate::sending::{play_packet, send_due};
 use crate::writing::{finish, write_stats};
@@ -38,7 +37,7 @@ use play_text::{Names, Rows, fates_header};
 use std::alloc::Global;
 
 // Writes the header of the departures, and then the header row of the fates.
-#[tactic(auto, using(play_base::proofs::ViewLaws::same_trans, play_base::proofs::ViewLaws::same_refl))]
+#[tactic(auto, using(play_base::proofs::ViewLaws::same_trans, play_base::proofs::ViewLaws::same_refl, discipline::proofs::ViewLaws::kind_trans, discipline::proofs::ViewLaws::kind_refl))]
 fn write_heads<F: Files>(files: &mut F, departures: u32, fates: u32) -> Result<(), PlayFault>
     requires departures { IsSome ((F.view files.old).part departures) }
     requires fates { IsSome ((F.view files.old).part fates) }
@@ -74,108 +73,10 @@ fn write_heads<F: Files>(files: &mut F, departures: u32, fates: u32) -> Result<(
 /// gathered, and the counts of each class: nothing that grows with the capture. A packet takes the memory of one that left, so at most
 /// 2,048 bytes, or twice its own; that of up to 65 that left is kept for those to come. Costs a few steps and the bytes of each packet,
 /// and what the discipline and `classify` cost.
-#[tactic(auto, using(play_base::proofs::ViewLaws::same_trans, play_base::proofs::ViewLaws::same_refl))]
-pub fn play<D: Discipline, C: Classify, F: Files>(
-    alloc: Global,
-    discipline: &mut D,
-    classify: &C,
-    names: &Names,
-    rate: u64,
-    words: &mut Words,
-    opened: &Opened<'_>,
-    files: &mut F,
-) -> Result<Totals, PlayFault>
-    requires ready { AreReady (F.view files.old) opened.now }
-    requires least { 1000 ≤ rate }
-    requires most { rate ≤ 10 ^ 12 }
-    requires rate { HasRate (D.view discipline.old).link_rate rate }
-    requires new { (D.view discipline.old).represents [] }
-    requires fresh { words.old.drawn ≡ 0 }
-    requires held { (frame : List ℕ) → IsOneOf (C.placed classify.now frame).class (D.view discipline.old).policy.classes }
-    requires precs { (frame : List ℕ) → (C.placed classify.now frame).prec ≤ 2 }
-    requires named { (frame : List ℕ) → HasClass names.now (C.placed classify.now frame).class }
-    ensures done { IfOk result (Plays (setup_of (D.view discipline.old).policy (C.placed classify.now) (C.dressed classify.now) names.now rate words.old.seed)
-        (D.view discipline.new).represents (F.view files.old) (F.view files.new) opened.now) }
-    ensures no_fault { OnOk result (SameCounts (F.view files.old) (F.view files.new)) }
-    ensures why { IfErr result (Explains (setup_of (D.view discipline.old).policy (C.placed classify.now)
-        (C.dressed classify.now) names.now rate words.old.seed)
-        (D.view discipline.new).represents (F.view files.old) (F.view files.new) opened.now) }
-    ensures front { OnErr result (Fronts (setup_of (D.view discipline.old).policy (C.placed classify.now)
-        (C.dressed classify.now) names.now rate words.old.seed)
-        (F.view files.old) (F.view files.new) opened.now) }
-    ensures stats { IfErr result (LeavesStats (setup_of (D.view discipline.old).policy (C.placed classify.now)
-        (C.dressed classify.now) names.now rate words.old.seed)
-        (F.view files.old) (F.view files.new) opened.now) }
-    ensures keeps { KeepsPlayed opened.now (F.view files.old) (F.view files.new) }
-    ensures none { NoneAppears (F.view files.old) (F.view files.new) }
-    ensures said { (F.view files.new).said ≡ (F.view files.old).said }
-{
-    play_told(
-        alloc,
-        discipline,
-        classify,
-        names,
-        rate,
-        words,
-        opened,
-        &mut KeepsNothing,
-        files,
-    )
-}
-
-/// Plays as `play` does, and keeps the journal. After Ok `kept` has gained at its end exactly the pairs of the journal, in their order,
-/// each with its packet's arrival; after another answer nothing is said of it. Takes the memory of `Kept` besides what `play` takes.
-#[tactic(auto, using(play_base::proofs::ViewLaws::same_trans, play_base::proofs::ViewLaws::same_refl))]
-pub fn play_kept<D: Discipline, C: Classify, F: Files>(
-    alloc: Global,
-    discipline: &mut D,
-    classify: &C,
-    names: &Names,
-    rate: u64,
-    words: &mut Words,
-    opened: &Opened<'_>,
-    files: &mut F,
-    kept: &mut Kept,
-) -> Result<Totals, PlayFault>
-    requires ready { AreReady (F.view files.old) opened.now }
-    requires least { 1000 ≤ rate }
-    requires most { rate ≤ 10 ^ 12 }
-    requires rate { HasRate (D.view discipline.old).link_rate rate }
-    requires new { (D.view discipline.old).represents [] }
-    requires fresh { words.old.drawn ≡ 0 }
-    requires held { (frame : List ℕ) → IsOneOf (C.placed classify.now frame).class (D.view discipline.old).policy.classes }
-    requires precs { (frame : List ℕ) → (C.placed classify.now frame).prec ≤ 2 }
-    requires named { (frame : List ℕ) → HasClass names.now (C.placed classify.now frame).class }
-    ensures done { IfOk result (Plays (setup_of (D.view discipline.old).policy (C.placed classify.now) (C.dressed classify.now) names.now rate words.old.seed)
-        (D.view discipline.new).represents (F.view files.old) (F.view files.new) opened.now) }
-    ensures kept { IfOk result (Tells (setup_of (D.view discipline.old).policy (C.placed classify.now) (C.dressed classify.now) names.now rate words.old.seed)
-        (D.view discipline.new).represents (λ ks. fates_in kept.new ≡ fates_in kept.old ++ ks) (F.view files.old) (F.view files.new) opened.now) }
-    ensures decided { IfOk result (HasDecided (setup_of (D.view discipline.old).policy (C.placed classify.now)
-        (C.dressed classify.now) names.now rate words.old.seed)
-        (λ ks. fates_in kept.new ≡ fates_in kept.old ++ ks)) }
-    ensures no_fault { OnOk result (SameCounts (F.view files.old) (F.view files.new)) }
-    ensures why { IfErr result (Explains (setup_of (D.view discipline.old).policy (C.placed classify.now)
-        (C.dressed classify.now) names.now rate words.old.seed)
-        (D.view discipline.new).represents (F.view files.old) (F.view files.new) opened.now) }
-    ensures front { OnErr result (Fronts (setup_of (D.view discipline.old).policy (C.placed classify.now)
-        (C.dressed classify.now) names.now rate words.old.seed)
-        (F.view files.old) (F.view files.new) opened.now) }
-    ensures stats { IfErr result (LeavesStats (setup_of (D.view discipline.old).policy (C.placed classify.now)
-        (C.dressed classify.now) names.now rate words.old.seed)
-        (F.view files.old) (F.view files.new) opened.now) }
-    ensures keeps { KeepsPlayed opened.now (F.view files.old) (F.view files.new) }
-    ensures none { NoneAppears (F.view files.old) (F.view files.new) }
-    ensures said { (F.view files.new).said ≡ (F.view files.old).said }
-{
-    kept.begin();
-    play_told(
-        alloc, discipline, classify, names, rate, words, opened, kept, files,
-    )
-}
-
-/// Plays as `play` does, and tells each decision to a keeper as soon as its texts are added. After Ok it was told the journal, and each
-/// packet's arrival with it; after another answer nothing is said of what it was told.
-#[tactic(auto, using(play_base::proofs::ViewLaws::same_trans, play_base::proofs::ViewLaws::same_refl))]
+///
+/// Each decision is told to a keeper as soon as its texts are added. After Ok it was told the journal, and each packet's arrival with it;
+/// after another answer nothing is said of what it was told. The discipline stays of its kind.
+#[tactic(auto, using(play_base::proofs::ViewLaws::same_trans, play_base::proofs::ViewLaws::same_refl, discipline::proofs::ViewLaws::kind_trans, discipline::proofs::ViewLaws::kind_refl))]
 pub fn play_told<D: Discipline, C: Classify, F: Files, K: Keeper>(
     alloc: Global,
     discipline: &mut D,
@@ -204,7 +105,8 @@ pub fn play_told<D: Discipline, C: Classify, F: Files, K: Keeper>(
     ensures decided { IfOk result (HasDecided (setup_of (D.view discipline.old).policy (C.placed classify.now)
         (C.dressed classify.now) names.now rate words.old.seed)
         (K.told keeper.new)) }
-    ensures before { K.before keeper.new ≡ K.before keeper.old }
+    ensures fixed { K.fixed keeper.new ≡ K.fixed keeper.old }
+    ensures kind { SameKind (D.view discipline.old) (D.view discipline.new) }
     ensures no_fault { OnOk result (SameCounts (F.view files.old) (F.view files.new)) }
     ensures why { IfErr result (Explains (setup_of (D.view discipline.old).policy (C.placed classify.now)
         (C.dressed classify.now) names.now rate words.old.seed)
@@ -216,6 +118,7 @@ pub fn play_told<D: Discipline, C: Classify, F: Files, K: Keeper>(
         (C.dressed classify.now) names.now rate words.old.seed)
         (F.view files.old) (F.view files.new) opened.now) }
     ensures keeps { KeepsPlayed opened.now (F.view files.old) (F.view files.new) }
+    ensures took { TookOnly opened.now (F.view files.old) (F.view files.new) }
     ensures none { NoneAppears (F.view files.old) (F.view files.new) }
     ensures said { (F.view files.new).said ≡ (F.view files.old).said }
 {
@@ -235,7 +138,7 @@ pub fn play_told<D: Discipline, C: Classify, F: Files, K: Keeper>(
 }
 
 // Plays a capture, and writes all but the statistics.
-#[tactic(auto, using(play_base::proofs::ViewLaws::same_trans, play_base::proofs::ViewLaws::same_refl))]
+#[tactic(auto, using(play_base::proofs::ViewLaws::same_trans, play_base::proofs::ViewLaws::same_refl, discipline::proofs::ViewLaws::kind_trans, discipline::proofs::ViewLaws::kind_refl))]
 fn play_capture<D: Discipline, C: Classify, F: Files, K: Keeper>(
     alloc: Global,
     discipline: &mut D,
@@ -259,7 +162,8 @@ fn play_capture<D: Discipline, C: Classify, F: Files, K: Keeper>(
     requires begun { K.told keeper.old [] }
     ensures answer { IsAnswer (setup_of (D.view discipline.old).policy (C.placed classify.now) (C.dressed classify.now) names.now rate words.old.seed)
         (D.view discipline.new).represents (K.told keeper.new) (F.view files.old) (F.view files.new) opened.now result }
-    ensures before { K.before keeper.new ≡ K.before keeper.old }
+    ensures fixed { K.fixed keeper.new ≡ K.fixed keeper.old }
+    ensures kind { SameKind (D.view discipline.old) (D.view discipline.new) }
     ensures others { OnlyPlayed opened.now.arrivals opened.now.departures opened.now.fates (F.view files.old) (F.view files.new) }
 {
     let mut outputs = Outputs::new(alloc, opened, counts);
@@ -282,7 +186,7 @@ fn play_capture<D: Discipline, C: Classify, F: Files, K: Keeper>(
 
 // Plays a capture to outputs to which nothing was added, and says how its events ended. What it holds besides is dropped before the
 // outputs are taken apart.
-#[tactic(auto, using(play_base::proofs::ViewLaws::same_trans, play_base::proofs::ViewLaws::same_refl))]
+#[tactic(auto, using(play_base::proofs::ViewLaws::same_trans, play_base::proofs::ViewLaws::same_refl, discipline::proofs::ViewLaws::kind_trans, discipline::proofs::ViewLaws::kind_refl))]
 fn play_opened<D: Discipline, C: Classify, F: Files, K: Keeper>(
     alloc: Global,
     discipline: &mut D,
@@ -314,7 +218,8 @@ fn play_opened<D: Discipline, C: Classify, F: Files, K: Keeper>(
     ensures broken { IfErr result (IsBrokenOff (setup_of (D.view discipline.old).policy (C.placed classify.now)
         (C.dressed classify.now) names.now rate words.old.seed)
         (D.view discipline.new).represents (F.view files.old) (F.view files.new) opened.now) }
-    ensures before { K.before keeper.new ≡ K.before keeper.old }
+    ensures fixed { K.fixed keeper.new ≡ K.fixed keeper.old }
+    ensures kind { SameKind (D.view discipline.old) (D.view discipline.new) }
     ensures others { OnlyPlayed opened.now.arrivals opened.now.departures opened.now.fates (F.view files.old) (F.view files.new) }
 {
     match write_heads(files, opened.departures, opened.fates) {
@@ -363,7 +268,7 @@ fn answer(ending: Ending, totals: Totals, counts: Vec<Counts>) -> Result<Tally, 
 }
 
 // Plays the records that a reader has not answered yet: each before the next is read, and at the end of the capture what is left.
-#[tactic(auto, using(play_base::proofs::ViewLaws::same_trans, play_base::proofs::ViewLaws::same_refl))]
+#[tactic(auto, using(play_base::proofs::ViewLaws::same_trans, play_base::proofs::ViewLaws::same_refl, discipline::proofs::ViewLaws::kind_trans, discipline::proofs::ViewLaws::kind_refl))]
 fn play_records<D: Discipline, C: Classify, F: Files, K: Keeper>(
     reader: &mut Reader,
     progress: &mut Progress,
@@ -391,7 +296,8 @@ fn play_records<D: Discipline, C: Classify, F: Files, K: Keeper>(
     ensures same { SameFiles outputs.old outputs.new }
     ensures file { reader.new.file ≡ reader.old.file }
     ensures others { OnlyPlayed reader.old.file outputs.old.departures outputs.old.fates (F.view files.old) (F.view files.new) }
-    ensures before { K.before keeper.new ≡ K.before keeper.old }
+    ensures fixed { K.fixed keeper.new ≡ K.fixed keeper.old }
+    ensures kind { SameKind (D.view discipline.old) (D.view discipline.new) }
 {
     let mut latest = 0;
     'records: loop {

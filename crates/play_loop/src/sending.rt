@@ -2,6 +2,7 @@
 ghost use Rattle.std.specs.Prelude.{◌≡◌, List, IfOk, OnErr};
 ghost use Rattle.altq_model.specs.Arrivals.{Captured};
 ghost use Rattle.altq_model.specs.History.{DrawnWords, LabelledEvent};
+ghost use Rattle.discipline.specs.View.{SameKind};
 ghost use Rattle.play_core.specs.Turns.{arrives};
 ghost use Rattle.play_loop.specs.Outputs.{AddsOnly};
 ghost use Rattle.play_loop.specs.Reading.{ArrivalFits};
@@ -22,7 +23,7 @@ use play_text::Names;
 
 /// Makes every sending that is due before an arrival, or all where none is to come, adds their texts and tells of each; stops before one that
 /// would end too late. After an error each file holds a front of its text.
-#[tactic(auto, using(play_base::proofs::ViewLaws::same_trans, play_base::proofs::ViewLaws::same_refl))]
+#[tactic(auto, using(play_base::proofs::ViewLaws::same_trans, play_base::proofs::ViewLaws::same_refl, discipline::proofs::ViewLaws::kind_trans, discipline::proofs::ViewLaws::kind_refl))]
 #[inline(always)]
 pub fn send_due<D: Discipline, C: Classify, F: Files, K: Keeper>(
     progress: &mut Progress,
@@ -45,7 +46,8 @@ pub fn send_due<D: Discipline, C: Classify, F: Files, K: Keeper>(
         (moment (D.view discipline.old) (F.view files.old) outputs.old (K.told keeper.old) progress.old)
         (F.view files.new) arrival) }
     ensures only { AddsOnly (F.view files.old) (F.view files.new) outputs.old outputs.new result }
-    ensures before { K.before keeper.new ≡ K.before keeper.old }
+    ensures fixed { K.fixed keeper.new ≡ K.fixed keeper.old }
+    ensures kind { SameKind (D.view discipline.old) (D.view discipline.new) }
 {
     'turns: loop {
         let departure = match progress.turn(discipline, arrival) {
@@ -62,7 +64,7 @@ pub fn send_due<D: Discipline, C: Classify, F: Files, K: Keeper>(
 
 /// Plays a packet that was read: makes every sending that is due before it, and offers it; stops before a sending that would end
 /// too late. After an error each file holds a front of its text.
-#[tactic(auto, using(play_base::proofs::ViewLaws::same_trans, play_base::proofs::ViewLaws::same_refl))]
+#[tactic(auto, using(play_base::proofs::ViewLaws::same_trans, play_base::proofs::ViewLaws::same_refl, discipline::proofs::ViewLaws::kind_trans, discipline::proofs::ViewLaws::kind_refl))]
 pub fn play_packet<D: Discipline, C: Classify, F: Files, K: Keeper>(
     progress: &mut Progress,
     discipline: &mut D,
@@ -86,7 +88,8 @@ pub fn play_packet<D: Discipline, C: Classify, F: Files, K: Keeper>(
         (moment (D.view discipline.old) (F.view files.old) outputs.old (K.told keeper.old) progress.old)
         (F.view files.new) words.old arriving.now) }
     ensures only { AddsOnly (F.view files.old) (F.view files.new) outputs.old outputs.new result }
-    ensures before { K.before keeper.new ≡ K.before keeper.old }
+    ensures fixed { K.fixed keeper.new ≡ K.fixed keeper.old }
+    ensures kind { SameKind (D.view discipline.old) (D.view discipline.new) }
 {
     let Arriving { packet, placed, .. } = *arriving;
     let at = Some(packet.at);

@@ -59,7 +59,7 @@ pub fn add_sent<C: Classify, F: Files, K: Keeper>(
     ensures stopped { OnErr result (StopsSent (C.dressed classify.now) names.now (F.view files.old) (F.view files.new) outputs.old departure) }
     ensures only { AddsOnly (F.view files.old) (F.view files.new) outputs.old outputs.new result }
     ensures told { OnOk result ((ks : List KeptFate) → K.told keeper.old ks → K.told keeper.new (ks ++ sent_fate departure ∷ [])) }
-    ensures before { K.before keeper.new ≡ K.before keeper.old }
+    ensures fixed { K.fixed keeper.new ≡ K.fixed keeper.old }
 {
     let fate = sent_fate(&departure);
     match write_sent(files, outputs, names, classify, departure) {
@@ -89,7 +89,7 @@ pub fn add_dropped<F: Files, K: Keeper>(
     ensures stopped { OnErr result (StopsDropped names.now (F.view files.old) (F.view files.new) outputs.old class dropped) }
     ensures only { AddsOnly (F.view files.old) (F.view files.new) outputs.old outputs.new result }
     ensures told { OnOk result ((ks : List KeptFate) → K.told keeper.old ks → K.told keeper.new (ks ++ dropped_fates dropped)) }
-    ensures before { K.before keeper.new ≡ K.before keeper.old }
+    ensures fixed { K.fixed keeper.new ≡ K.fixed keeper.old }
 {
     let Some(lost) = dropped else {
         return Ok(());

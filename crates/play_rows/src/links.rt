@@ -1,11 +1,9 @@
 // What a chain tells of its two links: the line of a status, and the parts by which faults are counted.
-ghost use Rattle.std.specs.Prelude.{◌<◌};
 
-use command_base::{Failure, Link, LinkFault, RunLimit, Status};
+use file_plans::{Entry, Part, Way, open_next};
 use memory_files::{Call, MemoryFiles};
 use pcapng_model::{NgKind, NgPlace};
-use play_base::Files;
-use second_files::SecondFiles;
+use run_outcomes::{CaptureStop, Failure, Link, Status, status_of};
 use std::alloc::Global;
 use std::test::Fail;
 
@@ -26,9 +24,9 @@ fn line_is_the_link(rt: HostRuntime) {
         place: 48,
         kind: NgKind::ShortBlock,
     };
-    let cut = Failure::OfLink(Link::First, LinkFault::Pcapng(block)).status();
-    let long = Failure::OfLink(Link::First, LinkFault::Long).status();
-    let late = Failure::OfLink(Link::Second, LinkFault::Clock).status();
+    let cut = status_of(Err(Failure::Capture(Link::First, CaptureStop::Block(block))));
+    let long = status_of(Err(Failure::Capture(Link::First, CaptureStop::TooLong)));
+    let late = status_of(Err(Failure::Capture(Link::Second, CaptureStop::Late)));
     assert!(rt;
         cut == status(4, 1, 48, 9) && long == status(7, 1, 0, 1) && late == status(7, 2, 0, 2)
     );
@@ -36,30 +34,31 @@ fn line_is_the_link(rt: HostRuntime) {
 
 #[test]
 fn limits_of_given_files(rt: HostRuntime) {
-    let fates = Failure::Limit(RunLimit::Fates).status();
-    let departures = Failure::Limit(RunLimit::Departures).status();
+    let fates = status_of(Err(Failure::TooLong(Part::Fates)));
+    let departures = status_of(Err(Failure::TooLong(Part::Departures)));
     assert!(rt; fates == status(7, 0, 0, 4) && departures == status(7, 0, 0, 5));
 }
 
-// How many faults of a part are counted where the first file that is created on the second link cannot be, which has the other part in
-// the play there.
-fn faults_of(alloc: Global, part: u8, in_the_play: u8) -> Result<u64, Fail>
-    requires part { part < 16 }
-    requires other { in_the_play < 16 }
-{
+// How many faults of a part are counted where its file cannot be created.
+fn faults_of(alloc: Global, part: Part) -> Result<u64, Fail> {
     let mut files = MemoryFiles::new(alloc);
     files.fail_at(Call::Create, 0)?;
-    let mut second = SecondFiles { files: &mut files };
-    let _ = second.create(in_the_play, "out2");
-    Ok(files.write_faults(part))
+    let way = Way::Written;
+    let name = "out2";
+    let _ = open_next(&mut files, &Entry { part, name, way });
+    Ok(files.write_faults(part.number()))
 }
 
-// Departures, fates and statistics are parts 3, 4 and 5 of a play.
 #[test]
 fn second_outputs_are_parts_7_to_9(rt: HostRuntime) -> Result<(), Fail> {
-    let departures = faults_of(rt.alloc(), 7, 3)?;
-    let fates = faults_of(rt.alloc(), 8, 4)?;
-    let stats = faults_of(rt.alloc(), 9, 5)?;
-    assert!(rt; departures == 1 && fates == 1 && stats == 1);
+    let numbers = (
+        Part::SecondDepartures.number(),
+        Part::SecondFates.number(),
+        Part::SecondStatistics.number(),
+    );
+    let departures = faults_of(rt.alloc(), Part::SecondDepartures)?;
+    let fates = faults_of(rt.alloc(), Part::SecondFates)?;
+    let stats = faults_of(rt.alloc(), Part::SecondStatistics)?;
+    assert!(rt; numbers == (7, 8, 9) && departures == 1 && fates == 1 && stats == 1);
     Ok(())
 }

@@ -2,6 +2,7 @@
 ghost use Rattle.std.specs.Prelude.{◌≡◌, ◌≤◌, ◌^◌, ◌∷◌, [], codes, length, IfOk};
 ghost use Rattle.memory_files.specs.Steady.{steady_view};
 ghost use Rattle.play_loop.specs.Played.{AreReady};
+ghost use Rattle.play_words.specs.Words.{AreDistinct};
 
 use altq_model::{Placed, Rule};
 use conf_lines::statements;
@@ -11,8 +12,7 @@ use leaf_queue::{Tail, Words};
 use memory_files::SteadyFiles;
 use plain_disciplines::{Classify, Discipline, Strict};
 use play_base::{Files, NoMemory};
-use play_files::create_outputs;
-use play_loop::{Opened, PlayFault, Totals, play};
+use play_loop::{KeepsNothing, Opened, PlayFault, Totals, play_told};
 use play_text::Names;
 use play_words::PlayWords;
 use std::alloc::Global;
@@ -109,7 +109,7 @@ fn play_two(
         return Err(PlayFault::NoMemory);
     };
     let mut words = Words::new(42);
-    play(
+    play_told(
         alloc,
         &mut queues,
         classes,
@@ -117,6 +117,7 @@ fn play_two(
         rate,
         &mut words,
         opened,
+        &mut KeepsNothing,
         files,
     )
 }
@@ -133,16 +134,29 @@ const NAMES: PlayWords<'static> = PlayWords {
 };
 
 // Opens the arrivals, and creates the outputs of a play.
-fn opened(files: &mut SteadyFiles) -> Result<Opened<'static>, Fail>
+fn opened(files: &mut SteadyFiles, words: &PlayWords<'_>) -> Result<Opened<'static>, Fail>
+    requires { AreDistinct words.now.config.now words.now.arrivals.now words.now.departures.now words.now.fates.now words.now.stats.now }
     ensures { IfOk result (λ o. AreReady (steady_view files.new) o) }
 {
-    let Ok(arrivals) = files.open(2, NAMES.arrivals) else {
+    let Ok(arrivals) = files.open(2, words.arrivals) else {
         return Err(Fail::new("arrivals"));
     };
-    match create_outputs(files, &NAMES, arrivals, &[]) {
-        Ok(opened) => Ok(opened),
-        Err(_) => Err(Fail::new("files")),
-    }
+    let Ok(departures) = files.create(3, words.departures) else {
+        return Err(Fail::new("departures"));
+    };
+    let Ok(fates) = files.create(4, words.fates) else {
+        return Err(Fail::new("fates"));
+    };
+    let Ok(stats) = files.create(5, words.stats) else {
+        return Err(Fail::new("statistics"));
+    };
+    Ok(Opened {
+        arrivals,
+        first: &[],
+        departures,
+        fates,
+        stats,
+    })
 }
 
 /// The header of a capture in little-endian nanoseconds.
@@ -156,6 +170,6 @@ pub fn ended(alloc: Global, files: &mut SteadyFiles, rate: u64) -> Result<Option
     requires most { rate ≤ 10 ^ 12 }
 {
     let classes = voice_and_data(alloc)?;
-    let opened = opened(files)?;
+    let opened = opened(files, &NAMES)?;
     Ok(play_two(alloc, files, &classes, rate, &opened).err())
 }

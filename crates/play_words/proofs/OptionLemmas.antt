@@ -21,8 +21,8 @@ use Rattle.play_words.specs.declared.words.Unread.TheVariants.{Refused, NoMemory
 use Rattle.play_words.specs.declared.words.WordsFault.TheVariants.{Options}
 use Rattle.play_words.specs.Causes.{Explains, cause_of, is_memory}
 use Rattle.play_words.specs.declared.options.OptionsOf.{OptionsOf}
-use Rattle.play_words.specs.declared.options.OptionsOf.TheVariants.{Play, Check, Make, Verify, Chain, Condition}
-use Rattle.play_words.specs.Options.{app_by, options_refusal, chain_app, check_app, make_app, play_app, takes_options, required_option, verify_app, with_options, options_of, value_of, condition_app}
+use Rattle.play_words.specs.declared.options.OptionsOf.TheVariants.{Play, Check, Make, Verify, Chain, Condition, Bound}
+use Rattle.play_words.specs.Options.{app_by, options_refusal, chain_app, check_app, make_app, play_app, takes_options, required_option, verify_app, with_options, options_of, value_of, condition_app, bound_app}
 use Rattle.line_text.specs.Numbers.{number}
 use Rattle.play_words.specs.Words.{IsMake, IsPlay, Named, Arguments, count_in, count_of, make_refusal, options_by, play_refusal, rows_read, rows_refusal}
 
@@ -97,6 +97,14 @@ condition_built = refl
 pub condition_is_simple : is_simple_and_free condition_app ≡ true
 unfolding condition_app clap_on_literals
 condition_is_simple = refl
+
+pub bound_built : with_options (new_app (codes "bound")) (codes "config" ∷ codes "interface" ∷ codes "longest" ∷ codes "burst" ∷ []) ≡ bound_app
+unfolding bound_app
+bound_built = refl
+
+pub bound_is_simple : is_simple_and_free bound_app ≡ true
+unfolding bound_app clap_on_literals
+bound_is_simple = refl
 
 pub simple_of : (app : App) → is_simple_and_free app ≡ true → is_simple app ≡ true
 simple_of app h = go (is_simple app) (is_free_app (built app)) h
@@ -179,3 +187,4 @@ simple_by Make = make_is_simple
 simple_by Verify = verify_is_simple
 simple_by Chain = chain_is_simple
 simple_by Condition = condition_is_simple
+simple_by Bound = bound_is_simple

@@ -6,7 +6,7 @@ use Rattle.clap.specs.Walk.{is_empty}
 use Rattle.clap.specs.Words.{App, Row, Rule, Text, fault_of, first_of, matches_of, new_app, new_rule, with_rule}
 use Rattle.clap.specs.declared.builder.action.ArgAction.TheVariants.{Set}
 use Rattle.play_words.specs.declared.options.OptionsOf.{OptionsOf}
-use Rattle.play_words.specs.declared.options.OptionsOf.TheVariants.{Play, Check, Make, Verify, Chain, Condition}
+use Rattle.play_words.specs.declared.options.OptionsOf.TheVariants.{Play, Check, Make, Verify, Chain, Condition, Bound}
 
 abbrev pub Arguments : Type 0
 Arguments = List (String Global)
@@ -43,6 +43,9 @@ chain_app = with_options (new_app (codes "chain"))
 unfoldable pub condition_app : App
 condition_app = with_options (new_app (codes "condition")) (codes "config" ∷ codes "interface" ∷ codes "arrivals" ∷ codes "marked" ∷ [])
 
+unfoldable pub bound_app : App
+bound_app = with_options (new_app (codes "bound")) (codes "config" ∷ codes "interface" ∷ codes "longest" ∷ codes "burst" ∷ [])
+
 -- the command of clap that reads these options
 abbrev pub app_by : OptionsOf → App
 app_by Play = play_app
@@ -51,6 +54,7 @@ app_by Make = make_app
 app_by Verify = verify_app
 app_by Chain = chain_app
 app_by Condition = condition_app
+app_by Bound = bound_app
 
 -- the words as texts; clap takes the first as the program's name, and reads those behind it
 abbrev pub texts_of : Arguments → List Text

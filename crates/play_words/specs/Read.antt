@@ -1,16 +1,17 @@
 -- What is read of the words.
 use Rattle.std.specs.Prelude.{◌≡◌, ℕ, List, [], ◌∷◌, Some, codes}
 use Rattle.clap.specs.Words.{Row}
+use Rattle.play_words.specs.declared.words.BoundWords.{BoundWords}
 use Rattle.play_words.specs.declared.words.ChainWords.{ChainWords}
 use Rattle.play_words.specs.declared.words.CheckWords.{CheckWords}
 use Rattle.play_words.specs.declared.words.Command.{Command}
-use Rattle.play_words.specs.declared.words.Command.TheVariants.{Play, Check, Make, Verify, Shares, Chain, Condition}
+use Rattle.play_words.specs.declared.words.Command.TheVariants.{Play, Check, Make, Verify, Shares, Chain, Condition, Bound}
 use Rattle.play_words.specs.declared.words.ConditionWords.{ConditionWords}
 use Rattle.play_words.specs.declared.words.MakeWords.{MakeWords}
 use Rattle.play_words.specs.declared.words.PlayWords.{PlayWords}
 use Rattle.play_words.specs.declared.words.VerifyWords.{VerifyWords}
 use Rattle.play_words.specs.Options.{value_of}
-use Rattle.play_words.specs.Words.{Arguments, IsPlay, IsChain, IsCheck, IsMake, IsShares, IsVerify, AreAllDistinct, AreDistinct, AreDistinctInputs, rows_read, seed_in, count_of, config_name, interface_name, AreDistinctMarks, IsCondition}
+use Rattle.play_words.specs.Words.{Arguments, IsPlay, IsChain, IsCheck, IsMake, IsShares, IsVerify, AreAllDistinct, AreDistinct, AreDistinctInputs, rows_read, seed_in, count_of, config_name, interface_name, AreDistinctMarks, IsCondition, IsBound, longest_of, burst_of}
 
 -- the names and the seed are those of the options
 pub record ReadsNames (rows : List Row) (w : PlayWords) : Type 0 where
@@ -90,6 +91,13 @@ pub record ReadsCondition (words : Arguments) (w : ConditionWords) : Type 0 wher
   pub command : IsCondition words
   pub read : ReadsMarking (rows_read words) w
 
+pub record ReadsBound (words : Arguments) (w : BoundWords) : Type 0 where
+  pub command : IsBound words
+  pub config : w.config.now ≡ config_name words
+  pub interface : w.interface.now ≡ interface_name words
+  pub longest : longest_of words ≡ Some w.longest
+  pub burst : burst_of words ≡ Some w.burst
+
 abbrev pub Reads : Arguments → Command → Type 0
 Reads words (Play w) = ReadsPlay words w
 Reads words (Check w) = ReadsCheck words w
@@ -98,3 +106,4 @@ Reads words (Verify w) = ReadsVerify words w
 Reads words (Shares w) = ReadsShares words w
 Reads words (Chain w) = ReadsChain words w
 Reads words (Condition w) = ReadsCondition words w
+Reads words (Bound w) = ReadsBound words w

@@ -1,5 +1,5 @@
--- The words behind the program's name: a command, `play`, `check`, `make`, `verify`, `shares`, `chain` or `condition`, and its options, as
--- clap reads them.
+-- The words behind the program's name: a command, `play`, `check`, `make`, `verify`, `shares`, `chain`, `condition` or `bound`, and its
+-- options, as clap reads them.
 use Rattle.std.specs.Prelude.{◌≡◌, ◌≢◌, ◌&&◌, ℕ, Bool, true, nat_le, not, is_none, List, [], ◌∷◌, map, slice_get, string_bytes, codes, if◌then◌else◌, None, Some}
 use Rattle.std.specs.List.{list_any}
 use Rattle.std.specs.Option.{option_map_or}
@@ -7,7 +7,7 @@ use Rattle.std.specs.Str.{bytes_eq}
 use Rattle.std.specs.declared.option.Option.{Option}
 use Rattle.clap.specs.Words.{Row}
 use Rattle.line_text.specs.Numbers.{number}
-use Rattle.play_words.specs.Options.{chain_app, check_app, make_app, options_of, options_refusal, play_app, takes_options, value_of, verify_app, condition_app}
+use Rattle.play_words.specs.Options.{chain_app, check_app, make_app, options_of, options_refusal, play_app, takes_options, value_of, verify_app, condition_app, bound_app}
 pub use Rattle.play_words.specs.Options.{Arguments}
 
 -- a word, or no text where there are fewer
@@ -26,6 +26,7 @@ pub data Named : Type 0 where
   Shares : Named
   Chain : Named
   Condition : Named
+  Bound : Named
   NoCommand : Named
 
 abbrev pub named : Arguments → Named
@@ -37,6 +38,7 @@ named words =
     else if is_word words 0 (codes "shares") then Shares
     else if is_word words 0 (codes "chain") then Chain
     else if is_word words 0 (codes "condition") then Condition
+    else if is_word words 0 (codes "bound") then Bound
     else NoCommand
 
 abbrev pub IsPlay : Arguments → Type 0
@@ -60,6 +62,9 @@ IsChain words = named words ≡ Chain
 abbrev pub IsCondition : Arguments → Type 0
 IsCondition words = named words ≡ Condition
 
+abbrev pub IsBound : Arguments → Type 0
+IsBound words = named words ≡ Bound
+
 -- the options that are read of the words behind the command; `shares` takes those of `play`
 abbrev pub options_by : Named → Arguments → List Row
 options_by Play words = options_of play_app words
@@ -69,6 +74,7 @@ options_by Verify words = options_of verify_app words
 options_by Shares words = options_of play_app words
 options_by Chain words = options_of chain_app words
 options_by Condition words = options_of condition_app words
+options_by Bound words = options_of bound_app words
 options_by NoCommand words = []
 
 abbrev pub rows_read : Arguments → List Row
@@ -113,12 +119,22 @@ seed_of words = seed_in (rows_read words)
 abbrev pub most_packets : ℕ
 most_packets = 1000000
 
+abbrev pub number_to : (most : ℕ) → Option ℕ → Option ℕ
+number_to most None = None
+number_to most (Some n) = if nat_le 1 n && nat_le n most then Some n else None
+
 abbrev pub count_in : Option ℕ → Option ℕ
-count_in None = None
-count_in (Some n) = if nat_le 1 n && nat_le n most_packets then Some n else None
+count_in = number_to most_packets
 
 abbrev pub count_of : Arguments → Option ℕ
 count_of words = count_in (number 10 (option_of (codes "count") words))
+
+-- the bytes of the longest packet, 1 to 2^18, and of a burst, 1 to 2^30
+abbrev pub longest_of : Arguments → Option ℕ
+longest_of words = number_to 262144 (number 10 (option_of (codes "longest") words))
+
+abbrev pub burst_of : Arguments → Option ℕ
+burst_of words = number_to 1073741824 (number 10 (option_of (codes "burst") words))
 
 abbrev pub differ : List ℕ → List ℕ → Bool
 differ a b = not (bytes_eq a b)
@@ -204,6 +220,13 @@ marking_refusal rows =
 abbrev pub condition_refusal : Arguments → Option ℕ
 condition_refusal words = if not (takes_options condition_app words) then Some 2 else marking_refusal (rows_read words)
 
+abbrev pub bound_refusal : Arguments → Option ℕ
+bound_refusal words =
+    if not (takes_options bound_app words) then Some 2
+    else if is_none (longest_of words) then Some 4
+    else if is_none (burst_of words) then Some 4
+    else None
+
 abbrev pub refusal_by : Named → Arguments → Option ℕ
 refusal_by Play words = play_refusal words
 refusal_by Check words = check_refusal words
@@ -212,6 +235,7 @@ refusal_by Verify words = verify_refusal words
 refusal_by Shares words = play_refusal words
 refusal_by Chain words = chain_refusal words
 refusal_by Condition words = condition_refusal words
+refusal_by Bound words = bound_refusal words
 refusal_by NoCommand words = Some 1
 
 abbrev pub refusal : Arguments → Option ℕ

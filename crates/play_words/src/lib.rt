@@ -6,6 +6,6 @@ mod words;
 
 pub use options::options_read;
 pub use words::{
-    ChainWords, CheckWords, Command, ConditionWords, MakeWords, PlayWords, Unread, VerifyWords,
-    WordsFault, count, read_words,
+    BoundWords, ChainWords, CheckWords, Command, ConditionWords, MakeWords, PlayWords, Unread,
+    VerifyWords, WordsFault, count, number_to, read_words,
 };

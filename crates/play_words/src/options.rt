@@ -5,7 +5,7 @@ ghost use Rattle.clap.specs.Words.{app_of, found_of, is_simple_and_free, new_app
 ghost use Rattle.clap.specs.declared.error.kind.ErrorKind.TheVariants.{OutOfMemory};
 ghost use Rattle.play_words.specs.Causes.{Explains};
 ghost use Rattle.play_words.specs.Options.{app_by, options_of, options_refusal, required_option, takes_options, value_of, with_options};
-ghost use Rattle.play_words.specs.Words.{IsChain, IsCheck, IsMake, IsPlay, IsShares, IsVerify, refusal, rows_read, IsCondition};
+ghost use Rattle.play_words.specs.Words.{IsChain, IsCheck, IsMake, IsPlay, IsShares, IsVerify, refusal, rows_read, IsCondition, IsBound};
 
 use crate::Unread;
 use crate::words::is;
@@ -77,6 +77,8 @@ const CHAIN: [&str; 12] = [
 
 const CONDITION: [&str; 4] = ["config", "interface", "arrivals", "marked"];
 
+const BOUND: [&str; 4] = ["config", "interface", "longest", "burst"];
+
 /// Whose options are read.
 #[derive(Clone, Copy)]
 pub(crate) enum OptionsOf {
@@ -86,6 +88,7 @@ pub(crate) enum OptionsOf {
     Verify,
     Chain,
     Condition,
+    Bound,
 }
 
 // The command of clap that reads them.
@@ -99,6 +102,7 @@ fn command_of<'a>(alloc: Global, options: OptionsOf) -> Result<Command<'a>, Allo
         OptionsOf::Verify => command(alloc, "verify", &VERIFY),
         OptionsOf::Chain => command(alloc, "chain", &CHAIN),
         OptionsOf::Condition => command(alloc, "condition", &CONDITION),
+        OptionsOf::Bound => command(alloc, "bound", &BOUND),
     }
 }
 
@@ -154,7 +158,7 @@ pub(crate) fn value<'a>(matches: &ArgMatches<'a>, name: &str) -> &'a str
 pub fn options_read<'a>(alloc: Global, words: &'a [String]) -> Option<Result<ArgMatches<'a>, Error>>
     ensures none { result ≡ None → refusal words.now ≡ Some 1 }
     ensures some { IfSome result (λ _. IsPlay words.now ⊎ IsCheck words.now ⊎ IsMake words.now ⊎ IsVerify words.now ⊎ IsShares words.now
-        ⊎ IsChain words.now ⊎ IsCondition words.now) }
+        ⊎ IsChain words.now ⊎ IsCondition words.now ⊎ IsBound words.now) }
     ensures read { IfSome result (λ told. IfOk told (λ m. rows_of (found_of m) ≡ rows_read words.now)) }
     ensures refused { IfSome result (λ told. IfErr told (λ e. kind_of e ≢ OutOfMemory → refusal words.now ≡ Some 2)) }
 {
@@ -178,6 +182,9 @@ pub fn options_read<'a>(alloc: Global, words: &'a [String]) -> Option<Result<Arg
     }
     if is(words, 0, "condition") {
         return Some(options_told(alloc, OptionsOf::Condition, words));
+    }
+    if is(words, 0, "bound") {
+        return Some(options_told(alloc, OptionsOf::Bound, words));
     }
     None
 }

@@ -4,8 +4,8 @@ ghost use Rattle.std.specs.Str.{bytes_eq};
 ghost use Rattle.line_text.specs.Numbers.{number};
 ghost use Rattle.clap.specs.Words.{found_of, kind_of, rows_of};
 ghost use Rattle.play_words.specs.Causes.{Explains, cause_of};
-ghost use Rattle.play_words.specs.Words.{AreAllDistinct, AreDistinct, IsChain, IsCheck, IsMake, IsVerify, TakesPlayed, is_word, are_all_distinct, are_distinct_names, are_distinct_inputs, differ_from, inputs_refusal, links_refusal, play_refusal, chain_refusal, check_refusal, verify_refusal, make_refusal, refusal, rows_read, rows_refusal, count_in, seed_in, AreDistinctMarks, IsCondition, are_distinct_marks, condition_refusal, marking_refusal};
-ghost use Rattle.play_words.specs.Read.{Reads, ReadsChain, ReadsInputs, ReadsLinks, ReadsNames, ReadsCheck, ReadsMake, ReadsRows, ReadsVerify, files_of, ReadsCondition, ReadsMarking};
+ghost use Rattle.play_words.specs.Words.{AreAllDistinct, AreDistinct, IsChain, IsCheck, IsMake, IsVerify, TakesPlayed, is_word, are_all_distinct, are_distinct_names, are_distinct_inputs, differ_from, inputs_refusal, links_refusal, play_refusal, chain_refusal, check_refusal, verify_refusal, make_refusal, refusal, rows_read, rows_refusal, count_in, seed_in, AreDistinctMarks, IsCondition, are_distinct_marks, condition_refusal, marking_refusal, IsBound, bound_refusal, number_to};
+ghost use Rattle.play_words.specs.Read.{Reads, ReadsChain, ReadsInputs, ReadsLinks, ReadsNames, ReadsCheck, ReadsMake, ReadsRows, ReadsVerify, files_of, ReadsCondition, ReadsMarking, ReadsBound};
 ghost use Rattle.play_words.specs.Kinds.{words_kind};
 ghost use Rattle.play_words.specs.declared.words.Unread.TheVariants.{NoMemory};
 
@@ -22,7 +22,8 @@ pub enum WordsFault {
     NoCommand,
     /// The words behind the command are not its options, each given once with its value; so is a call for help.
     Options,
-    /// The seed is not decimal digits, or it is 2^64 or more; or the count of `make` is not such digits, 1 to 1,000,000.
+    /// The seed is not decimal digits, or it is 2^64 or more; or the count of `make` is not such digits, 1 to 1,000,000; or of `bound`
+    /// the longest packet, 1 to 262,144, or the burst, 1 to 2^30.
     BadNumber,
     /// Two file names are equal as texts.
     NamesEqual,
@@ -127,8 +128,22 @@ pub struct ConditionWords<'a> {
     pub marked: &'a str,
 }
 
-/// The most packets that are made.
-const MOST: u64 = 1_000_000;
+/// The words of `bound`: the name of the configuration, the interface asked for, and the bytes of its longest packet, 1 to 262,144, and
+/// of a burst, 1 to 2^30.
+#[derive(Clone, Copy)]
+pub struct BoundWords<'a> {
+    pub config: &'a str,
+    pub interface: &'a str,
+    pub longest: u32,
+    pub burst: u32,
+}
+
+/// The most packets that are made, and the most bytes of a packet and of a burst.
+const MOST: u32 = 1_000_000;
+
+const MOST_LONGEST: u32 = 262_144;
+
+const MOST_BURST: u32 = 1_073_741_824;
 
 /// What the words ask for.
 #[derive(Clone, Copy)]
@@ -147,6 +162,8 @@ pub enum Command<'a> {
     Chain(ChainWords<'a>),
     /// To mark a capture.
     Condition(ConditionWords<'a>),
+    /// To say how late a packet of each leaf can be sent.
+    Bound(BoundWords<'a>),
 }
 
 // Whether a word is there and is this text, which isn't empty.
@@ -236,20 +253,27 @@ fn decimal(text: &str) -> Option<u64>
     whole(&Token { index: 1, parts })
 }
 
-/// The count of packets that a text gives: decimal digits, 1 to 1,000,000. `None` exactly where it is anything else.
-pub fn count(text: &str) -> Option<u32>
-    ensures { result ≡ count_in (number 10 text.now) }
+/// The number that a text gives: decimal digits, 1 to `most`. `None` exactly where it is anything else.
+pub fn number_to(text: &str, most: u32) -> Option<u32>
+    ensures { result ≡ number_to most (number 10 text.now) }
 {
     match decimal(text) {
-        Some(count) => {
-            if 1 <= count && count <= MOST {
-                Some(count as u32)
+        Some(number) => {
+            if 1 <= number && number <= most as u64 {
+                Some(number as u32)
             } else {
                 None
             }
         }
         None => None,
     }
+}
+
+/// The count of packets that a text gives: decimal digits, 1 to 1,000,000. `None` exactly where it is anything else.
+pub fn count(text: &str) -> Option<u32>
+    ensures { result ≡ count_in (number 10 text.now) }
+{
+    number_to(text, MOST)
 }
 
 // The names and the seed of options that were read; none where the seed is no such number.
@@ -431,12 +455,35 @@ fn condition_words<'a>(alloc: Global, words: &'a [String]) -> Result<ConditionWo
     }
 }
 
+// Reads the options of `bound`.
+fn bound_words<'a>(alloc: Global, words: &'a [String]) -> Result<BoundWords<'a>, Unread>
+    requires { IsBound words.now }
+    ensures accepted { OnOk result (bound_refusal words.now ≡ None) }
+    ensures refused { IfErr result (Explains (bound_refusal words.now)) }
+    ensures read { IfOk result (λ w. ReadsBound words.now w) }
+{
+    let matches = options_matched(alloc, OptionsOf::Bound, words)?;
+    let Some(longest) = number_to(value(&matches, "longest"), MOST_LONGEST) else {
+        return Err(Unread::Refused(WordsFault::BadNumber));
+    };
+    let Some(burst) = number_to(value(&matches, "burst"), MOST_BURST) else {
+        return Err(Unread::Refused(WordsFault::BadNumber));
+    };
+    let (config, interface) = (value(&matches, "config"), value(&matches, "interface"));
+    Ok(BoundWords {
+        config,
+        interface,
+        longest,
+        burst,
+    })
+}
+
 /// Reads the words behind the program's name: `play --config C --interface I --arrivals A --departures D --fates T --stats Z
 /// --seed N`, `shares` with the same options, `make --count K` with the same options, `check --config C --interface I`, `verify
 /// --config C --interface I --arrivals A --departures D --fates T`, `chain` with the options of `play` and `--next J --departures2 D2
-/// --fates2 T2 --stats2 Z2 --path P`, or `condition --config C --interface I --arrivals A --marked M`. The options stand in any order,
-/// each once, as `--name VALUE` or `--name=VALUE`. The seed is one or more decimal digits, below 2^64, and the count such digits, 1 to
-/// 1,000,000. No two of the file names C, A, D, T, Z, D2, T2, Z2, P and M are equal as texts. A refusal is the first test that fails, in
+/// --fates2 T2 --stats2 Z2 --path P`, `condition --config C --interface I --arrivals A --marked M`, or `bound --config C --interface I
+/// --longest L --burst B`. The options stand in any order, each once, as `--name VALUE` or `--name=VALUE`. The seed is one or more decimal digits, below 2^64, and the count such digits, 1 to
+/// 1,000,000; L is such digits, 1 to 262,144, and B, 1 to 2^30. No two of the file names C, A, D, T, Z, D2, T2, Z2, P and M are equal as texts. A refusal is the first test that fails, in
 /// the order of `WordsFault`.
 pub fn read_words<'a>(alloc: Global, words: &'a [String]) -> Result<Command<'a>, Unread>
     ensures accepted { OnOk result (refusal words.now ≡ None) }
@@ -482,6 +529,12 @@ pub fn read_words<'a>(alloc: Global, words: &'a [String]) -> Result<Command<'a>,
     if is(words, 0, "condition") {
         return match condition_words(alloc, words) {
             Ok(read) => Ok(Command::Condition(read)),
+            Err(cause) => Err(cause),
+        };
+    }
+    if is(words, 0, "bound") {
+        return match bound_words(alloc, words) {
+            Ok(read) => Ok(Command::Bound(read)),
             Err(cause) => Err(cause),
         };
     }

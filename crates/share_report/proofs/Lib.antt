@@ -2,3 +2,4 @@ pub mod Steps
 pub mod Gaps
 pub mod Bounds
 pub mod AllRows
+pub mod ClassLemmas

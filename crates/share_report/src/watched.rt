@@ -104,6 +104,8 @@ impl<D: Discipline + Drop> Watched<D> {
 
 impl<D: Discipline + Drop> Discipline for Watched<D> {
     ghost use Rattle.std.specs.Prelude.{[], max};
+    ghost use Rattle.share_gaps.specs.Watching.{classes_of};
+    ghost use Rattle.share_report.specs.Classes.{class_numbers};
     ghost use Rattle.share_report.specs.Watched.{BothStand};
     ghost use Rattle.std.proofs.Math.Nat.{max-le};
 
@@ -111,7 +113,7 @@ impl<D: Discipline + Drop> Discipline for Watched<D> {
       policy = (D.view d.inner).policy;
       limits = (D.view d.inner).limits;
       link_rate = (D.view d.inner).link_rate;
-      fixed = [];
+      fixed = class_numbers (classes_of d.watch);
       lists = (D.view d.inner).lists;
       represents = λ h. BothStand (D.view d.inner).represents (D.view d.inner).policy d.watch d.kept h;
       due = λ clock now. (D.view d.inner).due clock now;

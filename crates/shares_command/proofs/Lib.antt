@@ -1,4 +1,2 @@
-pub mod AlikeLemmas
-pub mod EndLemmas
 pub mod LineLemmas
-pub mod TellLemmas
+pub mod SharesLemmas

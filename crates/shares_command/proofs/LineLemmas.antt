@@ -1,10 +1,11 @@
 -- The lines of what was watched are those of the play.
-use Rattle.std.proofs.Common.{◌≡◌, ◌≤◌, ◌∙◌, ℕ, zero, suc, List, [], ◌∷◌, None, Some, Ok, Err, length, ap, arith, refl, subst, sym}
-use Rattle.std.specs.Prelude.{IsTrue, Option, option_map, slice_get}
-use Rattle.altq_model.specs.History.{Event, LabelledEvent, unlabelled}
+use Rattle.std.proofs.Common.{◌≡◌, ◌≤◌, ◌∙◌, ℕ, zero, suc, List, [], ◌∷◌, None, Some, length, ap, arith, refl, subst, sym}
+use Rattle.std.specs.Prelude.{Option, option_map, slice_get}
+use Rattle.altq_model.specs.History.{Event}
 use Rattle.altq_model.specs.Play.{Policy}
 use Rattle.service_curve.specs.declared.Curve.{Curve}
 use Rattle.conf_laws.specs.Fit.{IsCurveIfAny, IsHfscClass, IsInterface, IsOfKind}
+use Rattle.conf_laws.specs.Laws.{ConfigurationsFit}
 use Rattle.conf_tree.specs.declared.class.Class.{Class}
 use Rattle.conf_tree.specs.declared.interface.Interface.{Interface}
 use Rattle.conf_tree.specs.declared.interface.Kind.{Kind}
@@ -17,31 +18,18 @@ use Rattle.discipline.specs.Laws.{HasRate}
 use Rattle.hfsc_policy.specs.Classes.{IsClassTree}
 use Rattle.hfsc_policy.specs.Policy.{hfsc_policy}
 use Rattle.hfsc_policy.specs.Events.{hfsc_history}
+use Rattle.interface_play.specs.Setup.{IsConfigured}
 use Rattle.interface_policy.specs.Classes.{hfsc_classes}
 use Rattle.interface_policy.specs.Policy.{answering_of, policy_by, policy_of}
 use Rattle.interface_policy.proofs.Trees.{class_tree}
-use Rattle.play_base.specs.View.{View, Everything}
-use Rattle.play_base.proofs.ViewLaws.{keeps_refl}
 use Rattle.share_gaps.specs.declared.siblings.Siblings.{Siblings}
 use Rattle.share_gaps.specs.Rows.{rows}
 use Rattle.share_gaps.specs.Watching.{gap_after}
-use Rattle.share_lines.specs.Lines.{gap_lines}
 use Rattle.share_report.specs.Report.{IsGapOf, IsWithinBound, gaps_after}
 use Rattle.share_report.specs.Watched.{IsHfscOver}
-use Rattle.command_base.specs.Configuration.{Accepts}
-use Rattle.command_base.specs.Names.{Names}
-use Rattle.command_base.specs.Telling.{OnlySays}
-use Rattle.command_base.proofs.ConfLemmas.{one_interface}
-use Rattle.command_base.specs.declared.done.Done.TheVariants.{Played}
-use Rattle.command_base.specs.declared.failure.Failure.TheVariants as failure
-use Rattle.play_command.specs.Ending.{PlayEnds}
-use Rattle.play_command.specs.Found.{HasStood}
-use Rattle.play_command.specs.Played.{HasPlayed}
-use Rattle.play_command.proofs.BehindLemmas.{Reading}
-use Rattle.play_command.proofs.InputLemmas.{SameInput, played_by, played_lines}
-use Rattle.play_command.proofs.TellLemmas.{memory_told}
-use Rattle.shares_command.specs.Measured.{AreLinesOf, HasLines}
-use Rattle.shares_command.specs.Measuring.{lines_by}
+use Rattle.shares_command.specs.Lines.{gap_lines}
+use Rattle.shares_command.specs.Measured.{lines_by}
+use Rattle.shares_command.specs.Measuring.{AreLinesOf}
 
 -- the second slope of each link-sharing curve is at least 1
 slope_of : (o : Option Curve) (s : Curve) → IsCurveIfAny 0 1 o → o ≡ Some s → 1 ≤ s.m2
@@ -91,10 +79,11 @@ by_kind : (k : Kind) (classes : List Class) (h : HfscHistory) (text : List ℕ) 
 by_kind Hfsc classes h text e f = f
 by_kind Cbq classes h text e f = absurd cc
 
-pub lines_of : (i : Interface) (cs : List HfscClass) (h : HfscHistory) (text : List ℕ) → IsInterface i → i.kind ≡ Hfsc → cs ≡ hfsc_classes i.classes
-    → text ≡ gap_lines i.classes (gaps_after cs h) → ((ks : List HfscClass) (g : HfscHistory) (s : Siblings) → IsGapOf ks g s (gap_after ks g s))
-    → (HaveSlopes cs → (row : ℕ) → IsWithinBound (option_map (gap_after cs h) (slice_get (rows cs) row))) → AreLinesOf i h text
-lines_of i cs h text fit kind same is greatest within =
+pub lines_of : (i : Interface) (cs : List HfscClass) (events : List Event) (text : List ℕ) → IsInterface i → i.kind ≡ Hfsc → cs ≡ hfsc_classes i.classes
+    → text ≡ gap_lines i.classes (gaps_after cs (hfsc_history events)) → ((ks : List HfscClass) (g : HfscHistory) (s : Siblings) → IsGapOf ks g s (gap_after ks g s))
+    → (HaveSlopes cs → (row : ℕ) → IsWithinBound (option_map (gap_after cs (hfsc_history events)) (slice_get (rows cs) row))) → AreLinesOf i events text
+lines_of i cs events text fit kind same is greatest within =
+    let h = hfsc_history events in
     let P : List HfscClass → Type 0 = λ ks. HaveSlopes ks → (row : ℕ) → IsWithinBound (option_map (gap_after ks h) (slice_get (rows ks) row)) in
     record {
       lines = by_kind i.kind i.classes h text kind (is ∙ ap (λ (ks : List HfscClass). gap_lines i.classes (gaps_after ks h)) same);
@@ -110,44 +99,9 @@ not_both : (k : Kind) {A : Type 0} → k ≡ Cbq → k ≡ Hfsc → A
 not_both Cbq e f = absurd cc
 not_both Hfsc e f = absurd cc
 
-pub no_lines : (i : Interface) (h : HfscHistory) → i.kind ≡ Cbq → AreLinesOf i h []
-no_lines i h e = record { lines = none_by i.kind i.classes h e; fair = λ f. not_both i.kind e f }
+pub no_lines : (i : Interface) (events : List Event) (text : List ℕ) → i.kind ≡ Cbq → text ≡ [] → AreLinesOf i events text
+no_lines i events text e f = record { lines = f ∙ none_by i.kind i.classes (hfsc_history events) e; fair = λ g. not_both i.kind e g }
 
--- the lines of a history of the same events are those of the play
-pub stood_lines : (stood : List LabelledEvent → Type 0) (a c : View) (n : Names) (seed : ℕ) (i : Interface) (text : List ℕ) → Accepts a n.config n.interface i
-    → IsTrue a.tells → HasStood stood a c n seed → ((h : List LabelledEvent) → stood h → AreLinesOf i (hfsc_history (unlabelled h)) text) → HasLines a c n seed text
-stood_lines stood a c n seed i text accepted t x lines =
-    let y = lines x.1.0 x.1.1 in
-    let same = one_interface a n.config n.interface i x.0.accepted.interface (accepted t) x.0.accepted.configuration in
-    let P : List Event → Type 0 = λ es. AreLinesOf i (hfsc_history es) text in
-    let Q : Interface → Type 0 = λ j. AreLinesOf j (hfsc_history (unlabelled x.0.played.history)) text in
-    record { played = x.0; lines = subst Q same (subst P x.1.2 y) }
-
--- of CBQ nothing is said
-pub none_said : (a c : View) (n : Names) (seed : ℕ) (i : Interface) (text : List ℕ) → Accepts a n.config n.interface i → i.kind ≡ Cbq → text ≡ []
-    → IsTrue a.tells → HasPlayed a c n seed → HasLines a c n seed text
-none_said a c n seed i text accepted e empty t x =
-    let same = one_interface a n.config n.interface i x.accepted.interface (accepted t) x.accepted.configuration in
-    let h : HfscHistory = hfsc_history (unlabelled x.played.history) in
-    let P : List ℕ → Type 0 = λ ls. AreLinesOf i h ls in
-    let Q : Interface → Type 0 = λ j. AreLinesOf j h text in
-    record { played = x; lines = subst Q same (subst P (sym empty) (no_lines i h e)) }
-
--- behind the reading of the configuration
-pub lines_behind : (u a c : View) (n : Names) (seed : ℕ) (text : List ℕ) → Reading u a c n → (IsTrue a.tells → HasLines a c n seed text)
-    → IsTrue u.tells → HasLines u c n seed text
-lines_behind u a c n seed text s h t =
-    let x = h (s.read.keeps.tells ∙ t) in
-    let input : SameInput a u n = record { config = sym (s.read.keeps.bytes n.config tt); arrivals = sym (s.read.keeps.bytes n.arrivals tt) } in
-    record {
-      played = played_by a u c n seed input x.played;
-      lines = played_lines a u c n seed input x.played (λ i g. AreLinesOf i (hfsc_history (unlabelled g)) text) x.lines;
-    }
-
--- memory runs out while the lines are made
-pub lines_memory : (a c : View) (n : Names) (seed : ℕ) → PlayEnds a c n seed (Ok Played) → PlayEnds a c n seed (Err failure.NoMemory)
-lines_memory a c n seed h = record { comes = tt; told = λ t q. memory_told a n seed; leaves = h.leaves }
-
--- nothing was done
-pub unchanged_only : (v : View) → OnlySays v v
-unchanged_only v = record { keeps = keeps_refl Everything Everything v; none = λ f e. e }
+-- the numbers of an interface that is configured are in their ranges
+pub fits : (i : Interface) → ConfigurationsFit → IsConfigured i → IsInterface i
+fits i fit x = (fit x.text x.interfaces x.read).interface x.place i x.at

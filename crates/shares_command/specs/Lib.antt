@@ -1,4 +1,5 @@
+pub mod Ending
+pub mod Lines
 pub mod Measured
 pub mod Measuring
-pub use Rattle.command_base.specs.Names
-pub use Rattle.play_command.specs.Played
+pub use Rattle.command_form.specs.Names

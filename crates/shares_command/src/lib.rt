@@ -2,6 +2,8 @@
 #![tactic(auto)]
 
 mod classes;
+mod lines;
 mod measuring;
+mod sharing;
 
-pub use measuring::shares;
+pub use sharing::shares;

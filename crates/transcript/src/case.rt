@@ -1,6 +1,6 @@
 // A case: what was said so far, and the files of its runs.
 
-use crate::command::{add_status, run_over, run_steady_over};
+use crate::command::{add_status, run_over, run_words};
 use crate::trials::{Each, OUTPUTS};
 use case_bytes::{
     Form, How, add_lines, add_records, add_text, arrive, begin, change, number, word,
@@ -265,7 +265,7 @@ impl Case {
         files.short_writes(write.max(1));
         files.put("conf", self.config.as_bytes()).ok()?;
         files.put("in", &self.capture).ok()?;
-        let status = run_steady_over(self.alloc, files, command)?;
+        let status = run_words(self.alloc, files, command)?;
         for name in &OUTPUTS {
             self.files
                 .put(name, files.get(name).unwrap_or_default())

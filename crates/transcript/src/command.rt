@@ -1,8 +1,9 @@
 // Commands over files in memory.
 
-use memory_files::{MemoryFiles, SteadyFiles};
-use play_base::NoMemory;
-use play_cli::{Status, run, run_steady};
+use memory_files::MemoryFiles;
+use play_base::{Files, NoMemory};
+use play_cli::run;
+use run_outcomes::Status;
 use std::alloc::Global;
 
 // The usual options of a command.
@@ -30,14 +31,13 @@ pub fn run_over(
 ) -> Option<Status> {
     files.put("conf", config.as_bytes()).ok()?;
     files.put("in", capture).ok()?;
-    let words = whole_words(alloc, command).ok()?;
-    Some(run(alloc, &words, files))
+    run_words(alloc, files, command)
 }
 
-/// Runs a command over files that never fail.
-pub fn run_steady_over(alloc: Global, files: &mut SteadyFiles, command: &[&str]) -> Option<Status> {
+/// Runs a command over files of any kind.
+pub fn run_words<F: Files>(alloc: Global, files: &mut F, command: &[&str]) -> Option<Status> {
     let words = whole_words(alloc, command).ok()?;
-    Some(run_steady(alloc, &words, files))
+    Some(run(alloc, &words, files))
 }
 
 /// Adds how a command ended. Only of a chain its status tells the link.

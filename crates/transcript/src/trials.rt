@@ -3,7 +3,7 @@
 use crate::case::Case;
 use crate::command::{add_status, run_over};
 use memory_files::{Call, MemoryFiles};
-use play_cli::Status;
+use run_outcomes::Status;
 
 /// What changes from run to run, by its number from 0: the capture is cut to that many bytes, or the call of that number fails.
 #[derive(Clone, Copy)]

@@ -1,7 +1,5 @@
 pub mod ArrivalLemmas
-pub mod ComeLemmas
 pub mod EndLemmas
-pub mod InputLemmas
-pub mod LeaveLemmas
+pub mod FileLemmas
 pub mod OneLemmas
-pub mod TellLemmas
+pub mod PassLemmas

@@ -1,181 +1,132 @@
--- How `verify` ends: what it prints, when each failure comes, and what it leaves.
-use Rattle.std.specs.Prelude.{◌≡◌, ◌⊎◌, ◌≤◌, ◌++◌, ◌^◌, ℕ, List, length, None, Some, Ok, Err, IsTrue}
-use Rattle.capture_model.specs.declared.damage.Damage.{Damage}
-use Rattle.capture_model.specs.Capture.{End, Fault, Limit, Record, Step}
-use Rattle.conf_lines.specs.declared.fault.ConfPlace.{ConfPlace}
-use Rattle.conf_tree.specs.declared.interface.Interface.{Interface}
+-- How `verify` ends: what done means, when each failure comes, what must come, and what it leaves.
+use Rattle.std.specs.Prelude.{◌≡◌, ◌⊎◌, ◌<◌, ◌≤◌, ◌++◌, ◌^◌, ℕ, List, length, None, Some, Ok, Err, IsTrue}
+use Rattle.capture_model.specs.Capture.{End, Fault, Limit, Reads, Record, Step}
 use Rattle.fate_timely.specs.declared.given.Late.{Late}
-use Rattle.file_judge.specs.Given.{Given}
+use Rattle.file_judge.specs.Given.{Given as JudgedFiles}
 use Rattle.file_judge.specs.Verdict.{AreVerified, IsRefuted}
+use Rattle.file_plans.specs.declared.part.Part.TheVariants as part
+use Rattle.file_plans.specs.End.{Untouched}
+use Rattle.file_plans.specs.Parts.{part_number, printed}
 use Rattle.file_tests.specs.declared.Test.{Test}
-use Rattle.pcapng_files.specs.declared.fault.NgFault.{NgFault}
-use Rattle.pcapng_files.specs.declared.fault.NgFault.TheVariants as ng
-use Rattle.pcapng_model.specs.declared.fault.NgPlace.{NgPlace}
-use Rattle.play_base.specs.View.{View, Everything, Keeps, SameCounts}
-use Rattle.play_words.specs.declared.words.VerifyWords.{VerifyWords}
-use Rattle.command_base.specs.Configuration.{Configures, Refused, Says, TooLong}
-use Rattle.command_base.specs.Faults.{CannotRead, IsQuiet, WriteFailed}
-use Rattle.command_base.specs.Input.{TakesFew}
-use Rattle.command_base.specs.Outcome.{IsOrMemory, Outcome, read_number}
-use Rattle.command_base.specs.declared.done.Done.TheVariants as done
-use Rattle.command_base.specs.declared.failure.Failure.{Failure}
-use Rattle.command_base.specs.declared.failure.Failure.TheVariants as failure
-use Rattle.command_base.specs.declared.parts.ReadPart.{ReadPart}
-use Rattle.command_base.specs.declared.parts.ReadPart.TheVariants as read
-use Rattle.command_base.specs.declared.parts.RunLimit.TheVariants as limit
-use Rattle.command_base.specs.declared.parts.WrittenPart.TheVariants as written
-use Rattle.early_stops.specs.Arriving.{IsNoPcapng}
-use Rattle.verify_command.specs.Input.{HasRecords, IsLong}
+use Rattle.interface_marks.specs.Conditioners.{marked_in}
+use Rattle.play_base.specs.View.{View}
+use Rattle.run_inputs.specs.Meets.{CannotRead}
+use Rattle.run_outcomes.specs.Faults.{ReadFailed, WriteFailed}
+use Rattle.run_outcomes.specs.Outcome.{Outcome}
+use Rattle.run_outcomes.specs.declared.outcome.CaptureStop.TheVariants as capture
+use Rattle.run_outcomes.specs.declared.outcome.Done.{Done}
+use Rattle.run_outcomes.specs.declared.outcome.Done.TheVariants as done
+use Rattle.run_outcomes.specs.declared.outcome.Failure.{Failure}
+use Rattle.run_outcomes.specs.declared.outcome.Failure.TheVariants as failure
+use Rattle.run_outcomes.specs.declared.outcome.Link.TheVariants as link
+use Rattle.command_form.specs.Ends.{CommandEnds}
+use Rattle.command_form.specs.Form.{Command, Within}
+use Rattle.command_form.specs.Given.{IsGiven}
+use Rattle.command_form.specs.Names.{GivenNames}
+use Rattle.command_form.specs.Plans.{verify_plan}
 use Rattle.verify_command.specs.Lines.{verdict_text}
-use Rattle.command_base.specs.Parts as parts
 
--- the names of the words
-pub record Inputs : Type 0 where
-  pub config : List ℕ
-  pub interface : List ℕ
-  pub arrivals : List ℕ
-  pub departures : List ℕ
-  pub fates : List ℕ
-
-abbrev pub inputs_of : VerifyWords → Inputs
-inputs_of w = record {
-  config = w.config.now;
-  interface = w.interface.now;
-  arrivals = w.arrivals.now;
-  departures = w.departures.now;
-  fates = w.fates.now;
+abbrev pub verify_command : GivenNames → Command
+verify_command n = record {
+  plan = verify_plan n;
+  asked = record { config = n.config; interface = n.interface; next = None; arrivals = Some n.arrivals };
+  link = link.Sole;
 }
 
-abbrev pub HasInterface : View → Inputs → Type 0
-HasInterface v n = (found : Interface) × Configures v n.config n.interface found
+-- the bytes are some records, and then this
+abbrev pub HasReading : (bytes : List ℕ) → Step → Type 0
+HasReading bytes last = (records : List Record) × Reads bytes records last
 
--- the interface asked for is this one, and the arrivals are, once its conditioners have marked them, these records and then this
-pub record Arrive (v : View) (n : Inputs) (found : Interface) (records : List Record) (last : Step) : Type 0 where
-  pub configures : Configures v n.config n.interface found
-  pub held : HasRecords v found n.arrivals records last
+-- the arrivals, once the conditioners of the interface have marked them, end with this
+abbrev pub ArrivalsEndWith : View → GivenNames → Step → Type 0
+ArrivalsEndWith v n last = IsGiven v (verify_command n).asked (λ i g. HasReading (marked_in i g.capture) last)
 
--- the arrivals of the interface asked for end with this
-pub record EndsWith (v : View) (n : Inputs) (last : Step) : Type 0 where
-  pub found : Interface
-  pub records : List Record
-  pub arrive : Arrive v n found records last
-
--- they begin as a pcapng file, and have this fault
-pub record AreBroken (v : View) (n : Inputs) (f : NgFault) : Type 0 where
-  pub interface : HasInterface v n
-  pub arrivals : IsNoPcapng v n.arrivals f
-
-abbrev pub ExceedLimits : View → Inputs → Type 0
-ExceedLimits v n = EndsWith v n Limit ⊎ AreBroken v n ng.Limit
-
--- these bytes, at most 2^30, stand under a name
+-- these bytes, at most 2^30, stand under a name; or more
 pub record Holds (v : View) (name bytes : List ℕ) : Type 0 where
   pub at : v.bytes name ≡ Some bytes
   pub short : length bytes ≤ 2 ^ 30
 
+pub record IsLong (v : View) (name : List ℕ) : Type 0 where
+  pub bytes : List ℕ
+  pub at : v.bytes name ≡ Some bytes
+  pub long : 2 ^ 30 < length bytes
+
 -- the arrivals are a capture, and the departures are had whole
-pub record HasDepartures (v : View) (n : Inputs) : Type 0 where
-  pub arrivals : EndsWith v n End
+pub record HasDepartures (v : View) (n : GivenNames) : Type 0 where
+  pub arrivals : ArrivalsEndWith v n End
   pub bytes : List ℕ
   pub departures : Holds v n.departures bytes
 
--- the files under the names are these
-pub record AreGiven (v : View) (n : Inputs) (g : Given) : Type 0 where
-  pub arrive : Arrive v n g.interface g.records End
-  pub departures : Holds v n.departures g.departures
-  pub fates : Holds v n.fates g.fates
+-- THE FILES UNDER THE NAMES are these: the records are those of the marked arrivals
+pub record AreGivenFiles (v : View) (n : GivenNames) (j : JudgedFiles) : Type 0 where
+  pub arrivals : IsGiven v (verify_command n).asked (λ i g. (i ≡ j.interface) × Reads (marked_in i g.capture) j.records End)
+  pub departures : Holds v n.departures j.departures
+  pub fates : Holds v n.fates j.fates
 
 -- they pass every test
-pub record IsVerified (v : View) (n : Inputs) : Type 0 where
-  pub given : Given
-  pub are : AreGiven v n given
+pub record IsVerified (v : View) (n : GivenNames) : Type 0 where
+  pub given : JudgedFiles
+  pub are : AreGivenFiles v n given
   pub late : List Late
   pub verified : AreVerified given late
 
 -- they do, and it was printed
-pub record HasVerified (old new : View) (n : Inputs) : Type 0 where
-  pub given : Given
-  pub are : AreGiven old n given
+pub record HasVerified (old new : View) (n : GivenNames) : Type 0 where
+  pub given : JudgedFiles
+  pub are : AreGivenFiles old n given
   pub late : List Late
   pub verified : AreVerified given late
   pub said : new.said ≡ old.said ++ verdict_text given.interface late
 
 -- this row is the first that fails the least test that fails
-pub record AreRefuted (v : View) (n : Inputs) (row : ℕ) (test : Test) : Type 0 where
-  pub given : Given
-  pub are : AreGiven v n given
+pub record AreRefuted (v : View) (n : GivenNames) (row : ℕ) (test : Test) : Type 0 where
+  pub given : JudgedFiles
+  pub are : AreGivenFiles v n given
   pub refuted : IsRefuted given row test
 
 -- the departures, and the fates, are longer than 2^30 bytes
-pub record HasLongDepartures (v : View) (n : Inputs) : Type 0 where
-  pub arrivals : EndsWith v n End
+pub record HasLongDepartures (v : View) (n : GivenNames) : Type 0 where
+  pub arrivals : ArrivalsEndWith v n End
   pub long : IsLong v n.departures
 
-pub record HasLongFates (v : View) (n : Inputs) : Type 0 where
+pub record HasLongFates (v : View) (n : GivenNames) : Type 0 where
   pub departures : HasDepartures v n
   pub long : IsLong v n.fates
 
+abbrev pub VerifyDone : View → View → GivenNames → Done → Type 0
+VerifyDone old new n d = (d ≡ done.Done) × (IsTrue old.tells → HasVerified old new n)
+
+-- when each failure comes, behind inputs that stop nothing: the answer is printed only of verified files
+abbrev pub VerifyOwn : View → View → GivenNames → Failure → Type 0
+VerifyOwn old new n (failure.Capture link.Sole (capture.Damage d)) = Within 2 (verify_command n) old new × (IsTrue old.tells → ArrivalsEndWith old n (Fault d))
+VerifyOwn old new n (failure.Capture link.Sole capture.TooLong) = Within 2 (verify_command n) old new × (IsTrue old.tells → ArrivalsEndWith old n Limit)
+VerifyOwn old new n (failure.Read part.Arrivals) = Within 2 (verify_command n) old new × ReadFailed old new (part_number part.Arrivals)
+VerifyOwn old new n (failure.Read part.Departures) = CannotRead old new part.Departures n.departures × (IsTrue old.tells → ArrivalsEndWith old n End)
+VerifyOwn old new n (failure.Read part.Fates) = CannotRead old new part.Fates n.fates × (IsTrue old.tells → HasDepartures old n)
+VerifyOwn old new n (failure.TooLong part.Departures) = IsTrue old.tells → HasLongDepartures old n
+VerifyOwn old new n (failure.TooLong part.Fates) = IsTrue old.tells → HasLongFates old n
+VerifyOwn old new n (failure.Refuted row test) = IsTrue old.tells → AreRefuted old n row test
+VerifyOwn old new n failure.Unsaid = WriteFailed old new printed × (IsTrue old.tells → IsVerified old n)
+VerifyOwn old new n other = ⊥
+
+-- what must come: the first that the files tell, in the order in which they are read
+abbrev pub VerifyExpected : View → GivenNames → Outcome → Type 0
+VerifyExpected old n (Ok done.Done) = IsVerified old n
+VerifyExpected old n (Err (failure.Capture link.Sole (capture.Damage d))) = ArrivalsEndWith old n (Fault d)
+VerifyExpected old n (Err (failure.Capture link.Sole capture.TooLong)) = ArrivalsEndWith old n Limit
+VerifyExpected old n (Err (failure.Read part.Departures)) = ArrivalsEndWith old n End × (old.bytes n.departures ≡ None)
+VerifyExpected old n (Err (failure.Read part.Fates)) = HasDepartures old n × (old.bytes n.fates ≡ None)
+VerifyExpected old n (Err (failure.TooLong part.Departures)) = HasLongDepartures old n
+VerifyExpected old n (Err (failure.TooLong part.Fates)) = HasLongFates old n
+VerifyExpected old n (Err (failure.Refuted row test)) = AreRefuted old n row test
+VerifyExpected old n other = ⊥
+
 -- a file is opened only once those before it are had whole
-abbrev pub IsReached : View → Inputs → ReadPart → Type 0
-IsReached v n read.Configuration = Unit {0}
-IsReached v n read.Arrivals = HasInterface v n
-IsReached v n read.Departures = EndsWith v n End
-IsReached v n read.Fates = HasDepartures v n
-
--- the name of each file
-abbrev pub name_of : Inputs → ReadPart → List ℕ
-name_of n read.Configuration = n.config
-name_of n read.Arrivals = n.arrivals
-name_of n read.Departures = n.departures
-name_of n read.Fates = n.fates
-
--- what done means: the files are verified, where the files tell; and no call met a fault
-pub record IsDone (old new : View) (n : Inputs) : Type 0 where
-  pub verified : IsTrue old.tells → HasVerified old new n
-  pub no_fault : SameCounts old new
-
--- when each failure comes, and no other: the answer is printed only of verified files
-abbrev pub VerifyFails : View → View → Inputs → Failure → Type 0
-VerifyFails old new n (failure.Configuration place) = IsTrue old.tells → Says old n.config n.interface (Refused place)
-VerifyFails old new n (failure.Capture damage) = IsTrue old.tells → EndsWith old n (Fault damage)
-VerifyFails old new n (failure.Pcapng block) = IsTrue old.tells → AreBroken old n (ng.At block)
-VerifyFails old new n (failure.Read part) = CannotRead old new (read_number part) (name_of n part) × (IsTrue old.tells → IsReached old n part)
-VerifyFails old new n (failure.Write written.Answer) = WriteFailed old new parts.printed × (IsTrue old.tells → IsVerified old n)
-VerifyFails old new n (failure.Limit limit.Configuration) = IsTrue old.tells → Says old n.config n.interface TooLong
-VerifyFails old new n (failure.Limit limit.Capture) = IsTrue old.tells → ExceedLimits old n
-VerifyFails old new n (failure.Limit limit.Departures) = IsTrue old.tells → HasLongDepartures old n
-VerifyFails old new n (failure.Limit limit.Fates) = IsTrue old.tells → HasLongFates old n
-VerifyFails old new n (failure.Refuted row test) = IsTrue old.tells → AreRefuted old n row test
-VerifyFails old new n failure.NoMemory = Unit {0}
-VerifyFails old new n other = ⊥
-
-abbrev pub VerifyComes : View → View → Inputs → Outcome → Type 0
-VerifyComes old new n (Ok done.Verified) = IsDone old new n
-VerifyComes old new n (Ok other) = ⊥
-VerifyComes old new n (Err failure) = VerifyFails old new n failure
-
--- what must come, where the files tell and no count of faults rises but that of texts that could not be printed: exactly what they
--- say, unless memory runs out or the answer cannot be printed
-pub record VerifyIsTold (old : View) (n : Inputs) (o : Outcome) : Type 0 where
-  pub complete : IsVerified old n → (o ≡ Ok done.Verified) ⊎ IsOrMemory o (Err (failure.Write written.Answer))
-  pub refuted : (row : ℕ) (test : Test) → AreRefuted old n row test → IsOrMemory o (Err (failure.Refuted row test))
-  pub refused : (place : ConfPlace) → Says old n.config n.interface (Refused place) → IsOrMemory o (Err (failure.Configuration place))
-  pub damaged : (found : Damage) → EndsWith old n (Fault found) → IsOrMemory o (Err (failure.Capture found))
-  pub broken : (block : NgPlace) → AreBroken old n (ng.At block) → IsOrMemory o (Err (failure.Pcapng block))
-  pub absent : (part : ReadPart) → IsReached old n part → old.bytes (name_of n part) ≡ None → IsOrMemory o (Err (failure.Read part))
-  pub long : Says old n.config n.interface TooLong → IsOrMemory o (Err (failure.Limit limit.Configuration))
-  pub beyond : ExceedLimits old n → IsOrMemory o (Err (failure.Limit limit.Capture))
-  pub long_departures : HasLongDepartures old n → IsOrMemory o (Err (failure.Limit limit.Departures))
-  pub long_fates : HasLongFates old n → IsOrMemory o (Err (failure.Limit limit.Fates))
-
--- no more was done than to read: no name changes its bytes, nothing is created, and only these files are opened
-pub record VerifyLeaves (old new : View) (n : Inputs) : Type 0 where
-  pub keeps : Keeps Everything Everything old new
-  pub parts : (f p : ℕ) → old.part f ≡ None → new.part f ≡ Some p → (1 ≤ p) × (p ≤ 4)
-  pub few : TakesFew old new n.config
+pub record VerifyLeaves (old new : View) (n : GivenNames) : Type 0 where
+  pub departures : IsTrue old.tells → Untouched old new (part_number part.Departures) ⊎ ArrivalsEndWith old n End
+  pub fates : IsTrue old.tells → Untouched old new (part_number part.Fates) ⊎ HasDepartures old n
 
 -- A VERIFICATION ENDS SO, whatever comes of it
-pub record VerifyEnds (old new : View) (n : Inputs) (o : Outcome) : Type 0 where
-  pub comes : VerifyComes old new n o
-  pub told : IsTrue old.tells → IsQuiet old new → VerifyIsTold old n o
-  pub leaves : VerifyLeaves old new n
+abbrev pub VerifyEnds : View → View → GivenNames → Outcome → Type 0
+VerifyEnds old new n o =
+    CommandEnds (verify_command n) (VerifyDone old new n) (VerifyOwn old new n) (VerifyExpected old n) (VerifyLeaves old new n) old new o

@@ -1,170 +1,101 @@
 // Reading the arrivals of given files.
-ghost use Rattle.std.specs.Prelude.{◌≡◌, ◌≢◌, ◌≤◌, ℕ, true, List, length, Some, IsErrOf, IsSome, IsTrue, IfErr, IfOk, OnOk};
+ghost use Rattle.std.specs.Prelude.{◌≡◌, ◌≤◌, List, length, IsSome, IfErr, IfOk, OnOk};
+ghost use Rattle.arrivals_source.specs.Ways.{held_by};
 ghost use Rattle.conf_laws.specs.Fit.{IsInterface};
-ghost use Rattle.frame_classes.specs.Frames.{placed_by};
-ghost use Rattle.input_files.specs.Records.{AreRecords, HasFault};
+ghost use Rattle.input_files.specs.Records.{AreRecords};
 ghost use Rattle.interface_marks.specs.Conditioners.{marked_in};
-ghost use Rattle.marked_files.specs.Markings.{given};
-ghost use Rattle.marked_files.specs.Taking.{holds};
-ghost use Rattle.pcapng_files.specs.Fronts.{with_front};
-ghost use Rattle.play_base.specs.View.{Everything, Keeps, NoneAppears, ReadFault, SameCounts};
-ghost use Rattle.early_stops.specs.Arriving.{OnlyOpens, given_failure};
-ghost use Rattle.verify_command.specs.Input.{ArrivalCauses, HoldsCapture, capture_failure};
+ghost use Rattle.play_base.specs.View.{SameCounts};
+ghost use Rattle.verify_command.specs.Reading.{AreNotHad, OfPlayed, ReadOn, ReadSome, Through, capture_failure};
 
-use arrivals_front::{Given, given_arrivals};
-use command_base::{Failure, ReadPart, RunLimit, part};
+use arrivals_source::{ArrivalsSource, CountedFiles, Way};
 use conf_tree::Interface;
-use early_stops::given_failure;
+use file_plans::Part;
 use frame_classes::Classifier;
 use input_files::{Records, read_records};
 use interface_marks::{is_conditioned, marker_of, nothing_is_marked_without_conditioners};
-use marked_files::{MarkedFiles, Marker};
 use pcap_files::CaptureFault;
-use pcapng_files::{Front, FrontFiles};
-use play_base::{Files, Trouble};
+use pcapng_files::Front;
+use play_base::{Files, NoMemory};
+use run_inputs::Arrivals;
+use run_outcomes::{CaptureStop, Failure, Link};
 use std::alloc::Global;
 
+// What a fault of the capture ends the command as.
 fn capture_failure(fault: CaptureFault) -> Failure
     ensures { result ≡ capture_failure fault }
 {
     match fault {
-        CaptureFault::Damage(damage) => Failure::Capture(damage),
-        CaptureFault::Limit => Failure::Limit(RunLimit::Capture),
-        CaptureFault::Read => Failure::Read(ReadPart::Arrivals),
+        CaptureFault::Damage(damage) => Failure::Capture(Link::Sole, CaptureStop::Damage(damage)),
+        CaptureFault::Limit => Failure::Capture(Link::Sole, CaptureStop::TooLong),
+        CaptureFault::Read => Failure::Read(Part::Arrivals),
         CaptureFault::NoMemory => Failure::NoMemory,
     }
 }
 
-// The records of what a marker makes of what the file has left.
+// How the bytes in front and those behind them are read whole: marked by the interface's conditioners, if it has one.
+fn way_through(alloc: Global, interface: &Interface) -> Result<Way<Classifier>, NoMemory>
+    requires fits { IsInterface interface.now }
+    ensures shows { IfOk result (Through interface.now) }
+    ensures few { IfOk result (λ way. held_by way ≤ 262160) }
+{
+    nothing_is_marked_without_conditioners();
+    if !is_conditioned(interface) {
+        return Ok(Way::Converted);
+    }
+    Ok(Way::MarkedConverted(marker_of(alloc, interface, &[])?))
+}
+
+// The records of the arrivals with the marks of an interface's conditioners.
 #[tactic(auto, using(play_base::proofs::ViewLaws::same_trans, play_base::proofs::ViewLaws::same_refl))]
 fn marked_records<F: Files>(
     alloc: Global,
     files: &mut F,
-    file: u32,
-    marker: &mut Marker<Classifier>,
-) -> Result<Records, CaptureFault>
-    requires there { IsSome ((F.view files.old).part file) }
-    requires room { holds marker.old ≤ 262160 }
-    ensures whole { IfOk result (λ answers. IsTrue (F.view files.old).tells → (bytes : List ℕ) → (F.view files.old).left file ≡ Some bytes
-        → AreRecords (given placed_by marker.old bytes) answers) }
-    ensures few { IfOk result (λ answers. length answers ≤ 4000000) }
-    ensures fault { IfErr result (λ fault. IsTrue (F.view files.old).tells → (bytes : List ℕ) → (F.view files.old).left file ≡ Some bytes
-        → HasFault (given placed_by marker.old bytes) fault) }
-    ensures read { IsErrOf result CaptureFault.Read → ReadFault (F.view files.old) (F.view files.new) file }
-    ensures keeps { Keeps Everything (λ f. f ≢ file) (F.view files.old) (F.view files.new) }
-    ensures none { NoneAppears (F.view files.old) (F.view files.new) }
-    ensures said { (F.view files.new).said ≡ (F.view files.old).said }
-    ensures no_fault { OnOk result (SameCounts (F.view files.old) (F.view files.new)) }
-{
-    let mut marked = MarkedFiles {
-        files,
-        file,
-        marker,
-    };
-    read_records(alloc, &mut marked, file)
-}
-
-// The records of what the conditioners of an interface make of what the file has left, which is a whole capture.
-#[tactic(auto, using(play_base::proofs::ViewLaws::same_trans, play_base::proofs::ViewLaws::same_refl))]
-fn shown_records<F: Files>(
-    alloc: Global,
-    files: &mut F,
     interface: &Interface,
-    file: u32,
-) -> Result<Records, CaptureFault>
+    arrivals: &Arrivals,
+) -> Result<Records, Failure>
     requires fits { IsInterface interface.now }
-    requires there { IsSome ((F.view files.old).part file) }
-    ensures whole { IfOk result (λ answers. IsTrue (F.view files.old).tells → (bytes : List ℕ) → (F.view files.old).left file ≡ Some bytes
-        → AreRecords (marked_in interface.now bytes) answers) }
+    requires there { IsSome ((F.view files.old).part arrivals.now.file) }
+    ensures whole { IfOk result (λ answers. OfPlayed (F.view files.old) arrivals.now (λ bytes. AreRecords (marked_in interface.now bytes) answers)) }
     ensures few { IfOk result (λ answers. length answers ≤ 4000000) }
-    ensures fault { IfErr result (λ fault. IsTrue (F.view files.old).tells → (bytes : List ℕ) → (F.view files.old).left file ≡ Some bytes
-        → HasFault (marked_in interface.now bytes) fault) }
-    ensures read { IsErrOf result CaptureFault.Read → ReadFault (F.view files.old) (F.view files.new) file }
-    ensures keeps { Keeps Everything (λ f. f ≢ file) (F.view files.old) (F.view files.new) }
-    ensures none { NoneAppears (F.view files.old) (F.view files.new) }
-    ensures said { (F.view files.new).said ≡ (F.view files.old).said }
-    ensures no_fault { OnOk result (SameCounts (F.view files.old) (F.view files.new)) }
+    ensures why { IfErr result (AreNotHad (F.view files.old) (F.view files.new) interface.now arrivals.now) }
+    ensures some { ReadSome (F.view files.old) (F.view files.new) arrivals.now.file }
+    ensures counts { OnOk result (SameCounts (F.view files.old) (F.view files.new)) }
 {
-    nothing_is_marked_without_conditioners();
-    if !is_conditioned(interface) {
-        return read_records(alloc, files, file);
-    }
-    let none: [u8; 0] = [];
-    let Ok(mut marker) = marker_of(alloc, interface, &none) else {
-        return Err(CaptureFault::NoMemory);
+    let Ok(mut way) = way_through(alloc, interface) else {
+        return Err(Failure::NoMemory);
     };
-    marked_records(alloc, files, file, &mut marker)
-}
-
-// The same of what was taken of the file and, where that follows, of what it has left.
-#[tactic(auto, using(play_base::proofs::ViewLaws::same_trans, play_base::proofs::ViewLaws::same_refl))]
-fn records_behind<F: Files>(
-    alloc: Global,
-    files: &mut F,
-    interface: &Interface,
-    file: u32,
-    front: &[u8],
-    rest: bool,
-) -> Result<Records, CaptureFault>
-    requires fits { IsInterface interface.now }
-    requires there { IsSome ((F.view files.old).part file) }
-    ensures whole { IfOk result (λ answers. IsTrue (F.view files.old).tells → (bytes : List ℕ)
-        → with_front true rest front.now ((F.view files.old).left file) ≡ Some bytes → AreRecords (marked_in interface.now bytes) answers) }
-    ensures few { IfOk result (λ answers. length answers ≤ 4000000) }
-    ensures fault { IfErr result (λ fault. IsTrue (F.view files.old).tells → (bytes : List ℕ)
-        → with_front true rest front.now ((F.view files.old).left file) ≡ Some bytes → HasFault (marked_in interface.now bytes) fault) }
-    ensures read { IsErrOf result CaptureFault.Read → ReadFault (F.view files.old) (F.view files.new) file }
-    ensures keeps { Keeps Everything (λ f. f ≢ file) (F.view files.old) (F.view files.new) }
-    ensures none { NoneAppears (F.view files.old) (F.view files.new) }
-    ensures said { (F.view files.new).said ≡ (F.view files.old).said }
-    ensures no_fault { OnOk result (SameCounts (F.view files.old) (F.view files.new)) }
-{
-    let mut fronted = FrontFiles {
+    let mut source = ArrivalsSource {
         files,
-        file,
-        front: Front { bytes: front, rest },
+        file: arrivals.file,
+        front: Front::new(arrivals.given.front.as_slice(), arrivals.given.rest),
+        way: &mut way,
     };
-    match shown_records(alloc, &mut fronted, interface, file) {
+    match read_records(alloc, &mut source, arrivals.file) {
         Ok(records) => Ok(records),
-        Err(fault) => Err(fault),
+        Err(fault) => Err(capture_failure(fault)),
     }
 }
 
-/// The records of the capture under a name, classic or pcapng, with the marks of an interface's conditioners.
-#[tactic(auto, using(play_base::proofs::ViewLaws::same_trans, play_base::proofs::ViewLaws::same_refl))]
+/// The same, of whichever files; what the arrivals' file has left is no longer afterwards.
 pub(crate) fn read_arrivals<F: Files>(
     alloc: Global,
     files: &mut F,
     interface: &Interface,
-    name: &str,
+    arrivals: &Arrivals,
 ) -> Result<Records, Failure>
     requires fits { IsInterface interface.now }
-    ensures whole { IfOk result (λ answers. IsTrue (F.view files.old).tells → HoldsCapture (F.view files.old) interface.now name.now answers) }
+    requires there { IsSome ((F.view files.old).part arrivals.now.file) }
+    ensures whole { IfOk result (λ answers. OfPlayed (F.view files.old) arrivals.now (λ bytes. AreRecords (marked_in interface.now bytes) answers)) }
     ensures few { IfOk result (λ answers. length answers ≤ 4000000) }
-    ensures why { IfErr result (ArrivalCauses (F.view files.old) (F.view files.new) interface.now name.now) }
-    ensures keeps { Keeps Everything Everything (F.view files.old) (F.view files.new) }
-    ensures opens { OnlyOpens (F.view files.old) (F.view files.new) 2 }
-    ensures said { (F.view files.new).said ≡ (F.view files.old).said }
-    ensures no_fault { OnOk result (SameCounts (F.view files.old) (F.view files.new)) }
+    ensures why { IfErr result (AreNotHad (F.view files.old) (F.view files.new) interface.now arrivals.now) }
+    ensures on { ReadOn (F.view files.old) (F.view files.new) arrivals.now.file }
+    ensures counts { OnOk result (SameCounts (F.view files.old) (F.view files.new)) }
 {
-    let file = match files.open(part::ARRIVALS, name) {
-        Ok(file) => file,
-        Err(Trouble::Failed) => return Err(Failure::Read(ReadPart::Arrivals)),
-        Err(Trouble::NoMemory) => return Err(Failure::NoMemory),
-    };
-    let given = match given_arrivals(alloc, files, file) {
-        Ok(given) => given,
-        Err(fault) => return Err(given_failure(fault)),
-    };
-    match records_behind(
-        alloc,
+    let mut counted = CountedFiles {
         files,
-        interface,
-        file,
-        given.front.as_slice(),
-        given.rest,
-    ) {
-        Ok(records) => Ok(records),
-        Err(fault) => Err(capture_failure(fault)),
-    }
+        file: arrivals.file,
+        outputs: &[],
+        taken: 0,
+    };
+    marked_records(alloc, &mut counted, interface, arrivals)
 }

@@ -2,8 +2,7 @@
 #![tactic(auto)]
 
 mod arrivals;
-mod fates;
-mod input;
+mod files;
 mod lines;
 mod verifying;
 

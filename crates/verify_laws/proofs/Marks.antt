@@ -1,5 +1,5 @@
 -- The stamps of a marked capture are those of the capture.
-use Rattle.std.proofs.Common.{◌≡◌, ◌∙◌, ap, ℕ, List, [], ◌∷◌, refl, sym, subst}
+use Rattle.std.proofs.Common.{◌∙◌, ap, ℕ, List, [], ◌∷◌, sym, subst}
 use Rattle.capture_model.specs.Capture.{End, IsCapture, Outcome, Reads, Record, Step, outcome}
 use Rattle.capture_model.proofs.OutcomeLemmas.{outcome_ends, reads_outcome}
 use Rattle.pcap_files.proofs.ReadingLaws.{one_reading}

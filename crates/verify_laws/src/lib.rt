@@ -6,11 +6,8 @@ ghost use Rattle.altq_model.specs.Arrivals.{Captured, bare_arrivals};
 ghost use Rattle.altq_model.specs.History.{Arrival, LabelledEvent, journal};
 ghost use Rattle.altq_model.specs.Lawful.{AreHeld, AreRising};
 ghost use Rattle.altq_model.specs.Play.{AreDue};
-ghost use Rattle.command_base.specs.Names.{Names};
-ghost use Rattle.command_base.specs.Outcome.{Outcome};
-ghost use Rattle.command_base.specs.Telling.{Ends};
-ghost use Rattle.command_base.specs.declared.done.Done.TheVariants.{Played};
-ghost use Rattle.command_base.specs.declared.status.Status.{Status};
+ghost use Rattle.command_form.specs.Ends.{Ends};
+ghost use Rattle.command_form.specs.Names.{GivenNames, Names};
 ghost use Rattle.conf_laws.specs.Fit.{IsInterface};
 ghost use Rattle.conf_tree.specs.declared.interface.Interface.{Interface};
 ghost use Rattle.fate_departures.specs.Frames.{Packets};
@@ -19,9 +16,12 @@ ghost use Rattle.given_play.specs.Rights.{allowed_of, marks_of};
 ghost use Rattle.interface_policy.specs.Policy.{policy_of};
 ghost use Rattle.play_base.specs.View.{View};
 ghost use Rattle.play_command.specs.Ending.{PlayEnds};
-ghost use Rattle.play_command.specs.Played.{HasPlayed};
+ghost use Rattle.play_command.specs.Headline.{HasPlayed};
 ghost use Rattle.play_words.specs.Words.{AreDistinct};
-ghost use Rattle.verify_command.specs.Verifying.{Inputs, IsVerified, VerifyEnds};
+ghost use Rattle.run_outcomes.specs.Outcome.{Outcome};
+ghost use Rattle.run_outcomes.specs.declared.outcome.Done.TheVariants as done;
+ghost use Rattle.run_outcomes.specs.declared.status.Status.{Status};
+ghost use Rattle.verify_command.specs.Verifying.{IsVerified, VerifyEnds};
 ghost use Rattle.verify_laws.specs.Left.{AreLeft, HasItsStatus, HoldsBytes, IsVerification, inputs_played};
 
 mod memory;
@@ -53,15 +53,15 @@ pub fn fates_of_plays_can_occur()
 /// arrivals' name are bytes is asked, since a view might tell greater numbers. Directly after a play the same words name such files
 /// (`left`).
 pub fn played_files_are_verified()
-    ensures files { (old new v : View) (n : Names) (m : Inputs) (seed : ℕ) → HasPlayed old new n seed → HoldsBytes old n.arrivals
+    ensures files { (old new v : View) (n : Names) (m : GivenNames) (seed : ℕ) → HasPlayed old new n seed → HoldsBytes old n.arrivals
         → AreLeft old new v n m → IsVerified v m }
-    ensures ends { (old new v w : View) (n : Names) (m : Inputs) (seed : ℕ) (o : Outcome) → IsTrue old.tells → IsTrue v.tells
-        → HoldsBytes old n.arrivals → PlayEnds old new n seed (Ok Played) → AreLeft old new v n m → VerifyEnds v w m o → IsVerification v w o }
-    ensures statuses { (old new v w : View) (n : Names) (m : Inputs) (seed : ℕ) (s t : Status) → IsTrue old.tells → IsTrue v.tells
-        → HoldsBytes old n.arrivals → Ends (PlayEnds old new n seed) old new s → s.code ≡ 0 → AreLeft old new v n m
-        → Ends (VerifyEnds v w m) v w t → HasItsStatus v w t }
+    ensures ends { (old new v w : View) (n : Names) (m : GivenNames) (seed : ℕ) (o : Outcome) → IsTrue old.tells → IsTrue v.tells
+        → HoldsBytes old n.arrivals → PlayEnds old new n seed (Ok done.Done) → AreLeft old new v n m → VerifyEnds v w m o → IsVerification v w o }
+    ensures statuses { (old new v w : View) (n : Names) (m : GivenNames) (seed : ℕ) (s t : Status) → IsTrue old.tells → IsTrue v.tells
+        → HoldsBytes old n.arrivals → Ends (λ u o. PlayEnds old u n seed o) new s → s.code ≡ 0 → AreLeft old new v n m
+        → Ends (λ u o. VerifyEnds v u m o) w t → HasItsStatus v w t }
     ensures left { (old new : View) (n : Names) (seed : ℕ) → IsTrue old.tells → AreDistinct n.config n.arrivals n.departures n.fates n.stats
-        → PlayEnds old new n seed (Ok Played) → AreLeft old new new n (inputs_played n) }
+        → PlayEnds old new n seed (Ok done.Done) → AreLeft old new new n (inputs_played n) }
 {
     configurations_fit();
     frames_have_classes();

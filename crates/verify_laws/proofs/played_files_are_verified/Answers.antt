@@ -1,4 +1,4 @@
-use Rattle.play_command.proofs.Laws.{have_laws}
+use Rattle.interface_play.proofs.Cited.{have_laws}
 use Rattle.verify_laws.proofs.Views.{is_verified, left_there, played_status, played_verified}
 use Rattle.verify_laws.proofs.played_files_are_verified.Goals as goal
 

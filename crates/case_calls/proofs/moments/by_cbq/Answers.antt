@@ -1,6 +1,5 @@
 -- The numbers of a configured interface are in their ranges, and its classes hold its frames.
-use Rattle.command_base.proofs.ReadingLemmas.{fits}
-use Rattle.case_calls.proofs.InterfaceLemmas.{held_in, prec_in}
+use Rattle.case_calls.proofs.InterfaceLemmas.{fits, held_in, prec_in}
 use Rattle.case_calls.proofs.moments.by_cbq.Goals as goal
 
 pub cbq_of-requires-clause-fit : goal.cbq_of-requires-clause-fit

@@ -1,78 +1,69 @@
--- It ends at its configuration, or its answer was said, or not.
-use Rattle.std.proofs.Common.{◌++◌, ◌∙◌, ℕ, List, Err, ap, subst, sym}
-use Rattle.std.specs.Prelude.{Result}
-use Rattle.conf_lines.specs.declared.fault.ConfPlace.{ConfPlace}
-use Rattle.conf_tree.specs.Canonical.{canonical_text}
-use Rattle.link_fit.specs.Lines.{fit_line}
-use Rattle.play_base.proofs.ViewLaws.{rose_later, same_trans}
-use Rattle.play_base.specs.declared.trouble.Trouble.{Trouble}
-use Rattle.command_base.specs.declared.failure.Failure.{Failure}
-use Rattle.command_base.specs.declared.failure.Failure.TheVariants as failure
-use Rattle.command_base.specs.declared.fault.ConfigFault.TheVariants as conf
-use Rattle.command_base.proofs.ReadingLemmas.{accepts_of, configured_of, fits, input_config, read_absent, read_found}
-use Rattle.command_base.proofs.SayingLemmas.{config_after}
-use Rattle.check_command.specs.Checking.{CheckEnds}
-use Rattle.check_command.proofs.CheckLemmas.{config_ends, done_ends, unsaid_ends}
+use Rattle.std.proofs.Common.{◌∙◌, ◌++◌, ℕ, List, Err, ap, sym, subst}
+use Rattle.std.specs.Prelude.{IsTrue}
+use Rattle.command_form.proofs.EndsLaws.{unready_ends}
+use Rattle.command_form.proofs.FitLemmas.{accepted_fits}
+use Rattle.command_form.proofs.HadLaws.{accepted_says}
+use Rattle.conf_laws.specs.Fit.{IsInterface}
+use Rattle.conf_tree.specs.declared.interface.Interface.{Interface}
+use Rattle.play_base.proofs.ViewLaws.{same_trans}
+use Rattle.run_inputs.specs.Says.{Accepted, TextSays}
+use Rattle.run_outcomes.specs.declared.outcome.Failure.{Failure}
+use Rattle.check_command.specs.Checking.{CheckEnds, CheckExpected, CheckOwn, HasChecked, check_command}
+use Rattle.check_command.proofs.AnswerLaws.{answer_done, answer_fails, check_reads, had_said}
+use Rattle.check_command.proofs.CheckLaws.{check_is_done, check_must, check_of, check_ready, found_same}
 use Rattle.check_command.proofs.checking.check.Goals as goal
 
-pub returns-in-Err-clause-ends : goal.returns-in-Err-clause-ends
-returns-in-Err-clause-ends g c =
-    let config = c.args.words.now.config.now in
-    let interface = c.args.words.now.interface.now in
-    let P : Failure → Type 0 = λ f. CheckEnds (g.F.Files.view c.args.files.now) (g.F.Files.view c.read_conf.new.files) config interface (Err f) in
-    subst P (sym c.failure.ensures)
-    (config_ends (g.F.Files.view c.args.files.now) (g.F.Files.view c.read_conf.new.files) config interface c.in-Err.fault
-    (input_config (g.F.Files.view c.args.files.now) (g.F.Files.view c.read_conf.new.files) config interface c.in-Err.fault c.in-Err.ensures.why)
-    (record { keeps = c.in-Err.ensures.keeps; only = c.in-Err.ensures.only }))
-
-pub returns-in_default-clause-ends : goal.returns-in_default-clause-ends
-returns-in_default-clause-ends g c =
-    let config = c.args.words.now.config.now in
-    let interface = c.args.words.now.interface.now in
-    let P : ConfPlace → Type 0 = λ p. CheckEnds (g.F.Files.view c.args.files.now) (g.F.Files.view c.read_conf.new.files) config interface (Err (failure.Configuration p)) in
-    subst P (sym c.absent.ensures)
-    (config_ends (g.F.Files.view c.args.files.now) (g.F.Files.view c.read_conf.new.files) config interface (conf.At _)
-    (λ t. read_absent _ config interface c.in-Ok.conf c.in-Ok.ensures.read (sym c.in_default.ensures) t)
-    (record { keeps = c.in-Ok.ensures.keeps; only = c.in-Ok.ensures.only }))
-
-pub fit_of-requires : goal.fit_of-requires
-fit_of-requires g c =
-    let found = configured_of c.args.words.now.interface.now c.in-Ok.ensures.read.text c.in-Ok.conf c.in-Some.found.now c.in-Ok.ensures.read.reads (sym c.in-Some.ensures) in
-    c.configured_curves_can_be_summed.ensures c.in-Some.found.now (fits c.in-Some.found.now c.configurations_fit.ensures found)
-
-pub returns-in-Ok-say-clause-ends : goal.returns-in-Ok-say-clause-ends
-returns-in-Ok-say-clause-ends g c =
+pub returns-in-Err : goal.returns-in-Err
+returns-in-Err g c =
     let u = g.F.Files.view c.args.files.now in
-    let config = c.args.words.now.config.now in
-    let interface = c.args.words.now.interface.now in
-    done_ends u (g.F.Files.view c.say.new.self) config interface c.in-Some.found.now c.in-Ok-fit_of.fit
-    (accepts_of _ _ _ c.in-Ok.conf c.in-Some.found.now c.in-Ok.ensures.read (sym c.in-Some.ensures))
-    (record {
-      checked = λ t. record {
-        interfaces = c.in-Ok.conf;
-        found = c.in-Some.found.now;
-        configuration = read_found u config interface c.in-Ok.conf c.in-Some.found.now c.in-Ok.ensures.read (sym c.in-Some.ensures) t;
-        curves = c.in-Ok-fit_of.ensures;
-        said = c.in-Ok-say.ensures.said.grown (c.in-Ok.ensures.keeps.tells ∙ t)
-            ∙ ap (λ (text : List ℕ). (g.F.Files.view c.read_conf.new.files).said ++ text) (c.as_slice.ensures.value ∙ c.in-Ok-checked_text.ensures)
-            ∙ ap (λ (before : List ℕ). before ++ (canonical_text c.in-Ok.conf ++ fit_line c.in-Ok-fit_of.fit)) c.in-Ok.ensures.said;
-      };
-      no_fault = same_trans _ _ _ c.in-Ok.ensures.no_fault c.in-Ok-say.ensures.counts;
+    let v = g.F.Files.view c.read_configuration.new.files in
+    let n = c.args.words.now.config.now in
+    let i = c.args.words.now.interface.now in
+    let P : Failure → Type 0 = λ f. CheckEnds u v n i (Err f) in
+    subst P (sym c.unready_failure.ensures)
+    (unready_ends (check_command n i) (λ d. IsTrue u.tells → HasChecked u v n i d) (CheckOwn u v) (CheckExpected u n i) (Unit {0}) (check_reads n i) u v
+    c.in-Err.unready (check_ready u n i) c.in-Err.ensures.came c.in-Err.ensures.unready tt)
+
+pub answer_of-requires : goal.answer_of-requires
+answer_of-requires g c =
+    let h = c.in-Ok.ensures.had in
+    let a = (check_command c.args.words.now.config.now c.args.words.now.interface.now).asked in
+    let P : Interface → Type 0 = λ j. IsInterface j in
+    subst P (sym (found_same _ _ _ c.found-interface.ensures h.accepted.found))
+    (accepted_fits c.configurations_fit.ensures (g.F.Files.view c.args.files.now) a c.in-Ok.read.conf h.configured h.accepted)
+
+pub returns-in-Ok-say_answer : goal.returns-in-Ok-say_answer
+returns-in-Ok-say_answer g c =
+    let u = g.F.Files.view c.args.files.now in
+    let v = g.F.Files.view c.read_configuration.new.files in
+    let w = g.F.Files.view c.say_answer.new.files in
+    let n = c.args.words.now.config.now in
+    let i = c.args.words.now.interface.now in
+    let h = c.in-Ok.ensures.had in
+    let s = c.in-Ok-say_answer.ensures in
+    let text = c.in-Ok-answer_of.answer.text.items in
+    let same = found_same _ c.found-interface.result.now h.configured.found c.found-interface.ensures h.accepted.found in
+    let x = check_of u n i v c.in-Ok.read c.found-interface.result.now c.in-Ok-answer_of.answer.done text h same c.in-Ok-answer_of.ensures in
+    let said : IsTrue u.tells → TextSays u (check_command n i).asked (Accepted h.configured) =
+    λ t. accepted_says u (check_command n i).asked c.in-Ok.read.conf h.configured t h.accepted in
+    answer_done n i (λ d. IsTrue u.tells → HasChecked u w n i d) (CheckOwn u w) (CheckExpected u n i) u v w c.in-Ok.read c.in-Ok-answer_of.answer.done
+    (had_said n i u v w c.in-Ok.read _ c.in-Ok.ensures.came h s.said)
+    (λ t. record {
+      configured = h.configured;
+      configuration = said t;
+      text = text;
+      checked = x;
+      said = s.said.grown (c.in-Ok.ensures.came.keeps.tells ∙ t) ∙ ap (λ (m : List ℕ). v.said ++ m) c.as_slice.ensures.value
+          ∙ ap (λ (m : List ℕ). m ++ text) c.in-Ok.ensures.came.said;
     })
-    (config_after _ _ _ _ (record { keeps = c.in-Ok-say.ensures.said.keeps; none = c.in-Ok-say.ensures.said.none })
-    (record { keeps = c.in-Ok.ensures.keeps; only = c.in-Ok.ensures.only }))
+    (same_trans u v w c.in-Ok.ensures.counts s.counts) (λ t p e. check_must u n i h.configured c.in-Ok-answer_of.answer.done text (said t) x p e)
 
-pub returns-clause-ends : goal.returns-clause-ends
-returns-clause-ends g c =
+pub returns : goal.returns
+returns g c =
     let u = g.F.Files.view c.args.files.now in
-    let v = g.F.Files.view c.say.new.self in
-    let config = c.args.words.now.config.now in
-    let interface = c.args.words.now.interface.now in
-    let P : Failure → Type 0 = λ f. CheckEnds u v config interface (Err f) in
-    subst P (sym c.say_failure.ensures)
-    (unsaid_ends u v config interface c.in-Some.found.now c.in-Err-say.trouble
-    (accepts_of _ _ _ c.in-Ok.conf c.in-Some.found.now c.in-Ok.ensures.read (sym c.in-Some.ensures))
-    (λ e. rose_later _ _ _ (c.in-Ok.ensures.keeps.later.write 0)
-    (c.in-Err-say.ensures.failed (ap {B = Result (Unit {0}) Trouble} (λ (x : Trouble). Err x) e)))
-    (config_after _ _ _ _ (record { keeps = c.in-Err-say.ensures.refused.keeps; none = c.in-Err-say.ensures.refused.none })
-    (record { keeps = c.in-Ok.ensures.keeps; only = c.in-Ok.ensures.only })))
+    let w = g.F.Files.view c.say_answer.new.files in
+    let n = c.args.words.now.config.now in
+    let i = c.args.words.now.interface.now in
+    answer_fails n i (λ d. IsTrue u.tells → HasChecked u w n i d) (CheckExpected u n i) u (g.F.Files.view c.read_configuration.new.files) w c.in-Ok.read
+    c.in-Err-say_answer.failure c.in-Ok.ensures.came c.in-Ok.ensures.had c.in-Err-say_answer.ensures.refused (check_is_done u n i)
+    c.in-Err-say_answer.ensures.why

@@ -7,10 +7,10 @@ use Rattle.marked_files.specs.declared.behind.Behind.{Behind}
 use Rattle.marked_files.specs.declared.behind.Behind.TheVariants as behind
 use Rattle.play_base.specs.View.{Wrote, WroteFront}
 use Rattle.play_base.proofs.ViewLaws.{same_refl, same_trans}
-use Rattle.condition_command.specs.Marking.{MarksLeft}
+use Rattle.condition_command.specs.Marking.{MarksLeft, Stays}
 use Rattle.condition_command.specs.declared.marking.Unmarked.{Unmarked}
 use Rattle.condition_command.specs.declared.marking.Unmarked.TheVariants as unmarked
-use Rattle.condition_command.proofs.MovingLemmas.{EndsAs, Stays, marks_cut, marks_told, marks_unwritten, on_begun, on_taken, on_wrote, stays_on, stays_wrote}
+use Rattle.condition_command.proofs.MovingLemmas.{EndsAs, marks_cut, marks_told, marks_unwritten, on_begun, on_taken, on_wrote, stays_on, stays_wrote}
 use Rattle.condition_command.proofs.marking.mark_file.Given.{Over}
 use Rattle.condition_command.proofs.marking.mark_file.Goals.{In-Err, In-Err-write_all, In_default}
 use Rattle.condition_command.proofs.marking.mark_file.Goals as goal
@@ -32,7 +32,7 @@ returns-in-Err-clause-marks g c =
     let o = c.next_records.new.self in
     let y = c.in-Err.ensures in
     let on = on_taken u v w c.args.from c.args.to m c.turns.marker o c.turns.invariant.on y.taken in
-    let cut = marks_cut u w c.args.from c.args.to m o c.in-Err.trouble c.requires.apart on y.stays.0 y.stays.1 y.room in
+    let cut = marks_cut u w c.args.from c.args.to m o c.args.streamed c.in-Err.trouble c.requires.apart on y.stays.0 y.stays.1 y.room in
     let R : Unmarked → Type 0 = λ z. MarksLeft u w c.args.from c.args.to m (Err z) in
     subst R (sym c.read_trouble.ensures) cut
 
@@ -132,47 +132,17 @@ written g c =
     (on_taken u (g.F.Files.view c.turns.files) w c.args.from c.args.to m c.turns.marker o c.turns.invariant.on c.in-Ok.ensures.taken)
     c.in_default.ensures.wrote
 
-pub returns-in-Err-clause-keeps : goal.returns-in-Err-clause-keeps
-returns-in-Err-clause-keeps g c = (unread g (goal.at.returns-in-Err-clause-keeps g c).In-Err).keeps
+pub returns-in-Err-clause-stays : goal.returns-in-Err-clause-stays
+returns-in-Err-clause-stays g c = unread g (goal.at.returns-in-Err-clause-stays g c).In-Err
 
-pub returns-in-Err-clause-none : goal.returns-in-Err-clause-none
-returns-in-Err-clause-none g c = (unread g (goal.at.returns-in-Err-clause-none g c).In-Err).none
+pub returns-in-Err-write_all-clause-stays : goal.returns-in-Err-write_all-clause-stays
+returns-in-Err-write_all-clause-stays g c = unwritten g (goal.at.returns-in-Err-write_all-clause-stays g c).In-Err-write_all
 
-pub returns-in-Err-clause-said : goal.returns-in-Err-clause-said
-returns-in-Err-clause-said g c = (unread g (goal.at.returns-in-Err-clause-said g c).In-Err).said
+pub returns-in-End-clause-stays : goal.returns-in-End-clause-stays
+returns-in-End-clause-stays g c = written g (goal.at.returns-in-End-clause-stays g c).In_default
 
-pub returns-in-Err-write_all-clause-keeps : goal.returns-in-Err-write_all-clause-keeps
-returns-in-Err-write_all-clause-keeps g c = (unwritten g (goal.at.returns-in-Err-write_all-clause-keeps g c).In-Err-write_all).keeps
+pub returns-in-Damaged-clause-stays : goal.returns-in-Damaged-clause-stays
+returns-in-Damaged-clause-stays g c = written g (goal.at.returns-in-Damaged-clause-stays g c).In_default
 
-pub returns-in-Err-write_all-clause-none : goal.returns-in-Err-write_all-clause-none
-returns-in-Err-write_all-clause-none g c = (unwritten g (goal.at.returns-in-Err-write_all-clause-none g c).In-Err-write_all).none
-
-pub returns-in-Err-write_all-clause-said : goal.returns-in-Err-write_all-clause-said
-returns-in-Err-write_all-clause-said g c = (unwritten g (goal.at.returns-in-Err-write_all-clause-said g c).In-Err-write_all).said
-
-pub returns-in-End-clause-keeps : goal.returns-in-End-clause-keeps
-returns-in-End-clause-keeps g c = (written g (goal.at.returns-in-End-clause-keeps g c).In_default).keeps
-
-pub returns-in-End-clause-none : goal.returns-in-End-clause-none
-returns-in-End-clause-none g c = (written g (goal.at.returns-in-End-clause-none g c).In_default).none
-
-pub returns-in-End-clause-said : goal.returns-in-End-clause-said
-returns-in-End-clause-said g c = (written g (goal.at.returns-in-End-clause-said g c).In_default).said
-
-pub returns-in-Damaged-clause-keeps : goal.returns-in-Damaged-clause-keeps
-returns-in-Damaged-clause-keeps g c = (written g (goal.at.returns-in-Damaged-clause-keeps g c).In_default).keeps
-
-pub returns-in-Damaged-clause-none : goal.returns-in-Damaged-clause-none
-returns-in-Damaged-clause-none g c = (written g (goal.at.returns-in-Damaged-clause-none g c).In_default).none
-
-pub returns-in-Damaged-clause-said : goal.returns-in-Damaged-clause-said
-returns-in-Damaged-clause-said g c = (written g (goal.at.returns-in-Damaged-clause-said g c).In_default).said
-
-pub returns-in-Limit-clause-keeps : goal.returns-in-Limit-clause-keeps
-returns-in-Limit-clause-keeps g c = (written g (goal.at.returns-in-Limit-clause-keeps g c).In_default).keeps
-
-pub returns-in-Limit-clause-none : goal.returns-in-Limit-clause-none
-returns-in-Limit-clause-none g c = (written g (goal.at.returns-in-Limit-clause-none g c).In_default).none
-
-pub returns-in-Limit-clause-said : goal.returns-in-Limit-clause-said
-returns-in-Limit-clause-said g c = (written g (goal.at.returns-in-Limit-clause-said g c).In_default).said
+pub returns-in-Limit-clause-stays : goal.returns-in-Limit-clause-stays
+returns-in-Limit-clause-stays g c = written g (goal.at.returns-in-Limit-clause-stays g c).In_default

@@ -1,15 +1,22 @@
--- Where the file follows what was taken of it, the marker stands for that.
-use Rattle.std.proofs.Common.{Bool, sym, subst}
+-- What is marked through files of which the bytes are counted is marked of those behind them.
+use Rattle.std.proofs.Common.{rules, subst}
+use Rattle.play_base.specs.View.{View}
+use Rattle.arrivals_source.proofs.CountedLaws.{counted_fixed}
 use Rattle.condition_command.specs.Marking.{Marks}
-use Rattle.condition_command.proofs.MovingLemmas.{marks_followed}
+use Rattle.condition_command.proofs.MovingLemmas.{marks_counted}
 use Rattle.condition_command.proofs.marking.write_marked.Goals as goal
 
-pub returns-then-given-clause-marks : goal.returns-then-given-clause-marks
-returns-then-given-clause-marks g c =
-    let u = g.F.Files.view c.args.files.now in
-    let w = g.F.Files.view c.mark_file.new.files in
-    let front = c.args.given.now.front.items in
+pub returns-clause-marks : goal.returns-clause-marks
+returns-clause-marks g c =
+    let v = g.F.Files.view c.args.files.now in
+    let s = c.mark_given.new.files in
+    let w = g.F.Files.view s.files.now in
+    let from = c.args.from in
+    let given = c.args.given.now in
     let m = c.args.marker.now in
-    let r = c.mark_file.result in
-    let Q : Bool → Type 0 = λ b. Marks u w c.args.from c.args.to b front m r in
-    subst Q (sym c.if-given.true) (marks_followed u w c.args.from c.args.to front m r c.mark_file.ensures.marks)
+    let r = c.mark_given.result in
+    let y = c.mark_given.ensures in
+    let fixed = (counted_fixed v w _ s.files.ghost_name from s.file s.taken _ _ y.stays.keeps).reference in
+    let back = marks_counted v w _ s.files.ghost_name from s.file c.args.to s.taken given.rest given.front.items m r y.marks in
+    let Q : View → Type 0 = λ u. Marks v u from c.args.to given.rest given.front.items m r in
+    subst Q (search rules) back

@@ -1,109 +1,195 @@
--- It ends at its configuration, at its arrivals, at its play, or at its summary.
-use Rattle.std.proofs.Common.{◌∙◌, Err, ap, subst, sym}
-use Rattle.std.specs.Prelude.{Result}
-use Rattle.conf_lines.specs.declared.fault.ConfPlace.{ConfPlace}
-use Rattle.play_base.proofs.ViewLaws.{rose_later, same_trans}
-use Rattle.play_base.specs.declared.trouble.Trouble.{Trouble}
-use Rattle.command_base.specs.Names.{names_read}
-use Rattle.command_base.specs.declared.failure.Failure.{Failure}
-use Rattle.command_base.specs.declared.failure.Failure.TheVariants as failure
-use Rattle.command_base.specs.declared.fault.ConfigFault.TheVariants as conf
-use Rattle.command_base.proofs.ReadingLemmas.{accepts_of, configured_of, input_config, read_absent}
-use Rattle.make_command.specs.Making.{MakeEnds}
-use Rattle.make_command.proofs.MadeLemmas.{HasBegun, accepts_since, begun_of, leaves_read, leaves_written}
-use Rattle.make_command.proofs.MakeLemmas.{arrivals_ends, config_ends, failed_ends, said_ends, unsaid_ends, written_of}
+-- Its configuration, its arrivals, its play and its summary, each of which may end it.
+use Rattle.std.proofs.Common.{◌≡◌, ◌≤◌, ◌∙◌, ℕ, true, length, arith, List, [], ◌∷◌, Option, Some, Ok, Err, IsTrue, ap, sym, subst}
+use Rattle.arrivals_front.specs.declared.given.Given.{Given}
+use Rattle.command_form.specs.Names.{names_read}
+use Rattle.conf_tree.specs.declared.interface.Interface.{Interface}
+use Rattle.file_plans.specs.Came.{Came}
+use Rattle.interface_play.specs.Setup.{IsConfigured}
+use Rattle.interface_play.specs.Source.{AreSeparate, Places}
+use Rattle.pcapng_files.specs.Fronts.{with_front}
+use Rattle.play_command.proofs.PlayedLaws.{configured_of, separate_of}
+use Rattle.run_outcomes.specs.declared.outcome.Failure.{Failure}
+use Rattle.make_command.specs.Ending.{MakeEnds}
+use Rattle.make_command.proofs.MadeLemmas.{Begins, Ended, before_play, begins_behind, begins_since, make_failed, make_said, make_unsaid}
+use Rattle.make_command.proofs.MakeLemmas.{Asks, IsWritten, made_at, make_unready, open_failed, opened_at, write_failed}
 use Rattle.make_command.proofs.making.make.Goals as goal
 
-pub returns-in-Err-clause-ends : goal.returns-in-Err-clause-ends
-returns-in-Err-clause-ends g c =
+pub returns-in-Err : goal.returns-in-Err
+returns-in-Err g c =
     let n = names_read c.args.words.now.play in
-    let P : Failure → Type 0 = λ f. MakeEnds (g.F.Files.view c.args.files.now) (g.F.Files.view c.read_conf.new.files) n c.args.words.now.play.seed c.args.words.now.count (Err f) in
-    subst P (sym c.failure.ensures)
-    (config_ends (g.F.Files.view c.args.files.now) (g.F.Files.view c.read_conf.new.files) n c.args.words.now.play.seed c.args.words.now.count c.in-Err.fault c.requires.distinct
-    (input_config (g.F.Files.view c.args.files.now) (g.F.Files.view c.read_conf.new.files) n.config n.interface c.in-Err.fault c.in-Err.ensures.why)
-    (record { keeps = c.in-Err.ensures.keeps; only = c.in-Err.ensures.only })
-    (leaves_read _ _ n c.args.words.now.play.seed c.args.words.now.count c.requires.distinct (record { keeps = c.in-Err.ensures.keeps; only = c.in-Err.ensures.only })))
+    let seed = c.args.words.now.play.seed in
+    let count = c.args.words.now.count in
+    let u = g.F.Files.view c.args.files.now in
+    let a = g.F.Files.view c.read_configuration.new.files in
+    let P : Failure → Type 0 = λ f. MakeEnds u a n seed count (Err f) in
+    subst P (sym c.unready_failure.ensures)
+    (make_unready u a n seed count c.in-Err.unready c.requires.distinct c.in-Err.ensures.came c.in-Err.ensures.unready)
 
-pub returns-in_default-clause-ends : goal.returns-in_default-clause-ends
-returns-in_default-clause-ends g c =
+pub returns-in-Err-write_arrivals : goal.returns-in-Err-write_arrivals
+returns-in-Err-write_arrivals g c =
     let n = names_read c.args.words.now.play in
-    let P : ConfPlace → Type 0 = λ p. MakeEnds (g.F.Files.view c.args.files.now) (g.F.Files.view c.read_conf.new.files) n c.args.words.now.play.seed c.args.words.now.count
-    (Err (failure.Configuration p)) in
-    subst P (sym c.absent.ensures)
-    (config_ends (g.F.Files.view c.args.files.now) (g.F.Files.view c.read_conf.new.files) n c.args.words.now.play.seed c.args.words.now.count (conf.At _) c.requires.distinct
-    (λ t. read_absent _ n.config n.interface c.in-Ok.conf c.in-Ok.ensures.read (sym c.in_default.ensures) t)
-    (record { keeps = c.in-Ok.ensures.keeps; only = c.in-Ok.ensures.only })
-    (leaves_read _ _ n c.args.words.now.play.seed c.args.words.now.count c.requires.distinct (record { keeps = c.in-Ok.ensures.keeps; only = c.in-Ok.ensures.only })))
-
-pub returns-in-Err-write_arrivals-clause-ends : goal.returns-in-Err-write_arrivals-clause-ends
-returns-in-Err-write_arrivals-clause-ends g c =
-    let n = names_read c.args.words.now.play in
+    let seed = c.args.words.now.play.seed in
+    let count = c.args.words.now.count in
+    let u = g.F.Files.view c.args.files.now in
+    let a = g.F.Files.view c.read_configuration.new.files in
+    let r = c.in-Ok.read in
+    let k : Asks u a n r = record { come = c.in-Ok.ensures.came; had = c.in-Ok.ensures.had; counts = c.in-Ok.ensures.counts; distinct = c.requires.distinct } in
     let x = c.in-Err-write_arrivals.ensures in
-    let accepted = accepts_of _ _ _ c.in-Ok.conf c.in-Some.found.now c.in-Ok.ensures.read (sym c.in-Some.ensures) in
-    let P : Failure → Type 0 = λ f. MakeEnds (g.F.Files.view c.args.files.now) (g.F.Files.view c.write_arrivals.new.files) n c.args.words.now.play.seed c.args.words.now.count (Err f) in
-    subst P (sym c.arrivals_failure.ensures)
-    (arrivals_ends _ _ n c.args.words.now.play.seed c.args.words.now.count c.in-Some.found.now c.in-Err-write_arrivals.trouble accepted
-    (λ e. rose_later _ _ _ (c.in-Ok.ensures.keeps.later.write 2) (x.failed (ap {B = Result (Unit {0}) Trouble} (λ (t : Trouble). Err t) e)))
-    (leaves_written _ _ _ n c.args.words.now.play.seed c.args.words.now.count c.in-Some.found.now
-    (record { keeps = c.in-Ok.ensures.keeps; only = c.in-Ok.ensures.only }) c.requires.distinct x.keeps (record { part = x.new; one = x.one; named = x.named }) accepted x.front))
+    write_failed u a _ n seed count r c.in-Err-write_arrivals.failure k x.along x.front x.said x.why
 
-pub play_found-requires-clause-configured : goal.play_found-requires-clause-configured
-play_found-requires-clause-configured g c = configured_of c.args.words.now.play.interface.now c.in-Ok.ensures.read.text c.in-Ok.conf c.in-Some.found.now
-    c.in-Ok.ensures.read.reads (sym c.in-Some.ensures)
-
-pub play_found-requires-clause-accepted : goal.play_found-requires-clause-accepted
-play_found-requires-clause-accepted g c =
+pub returns-in-Err-open_arrivals : goal.returns-in-Err-open_arrivals
+returns-in-Err-open_arrivals g c =
     let n = names_read c.args.words.now.play in
+    let seed = c.args.words.now.play.seed in
+    let count = c.args.words.now.count in
+    let u = g.F.Files.view c.args.files.now in
+    let a = g.F.Files.view c.read_configuration.new.files in
+    let r = c.in-Ok.read in
+    let k : Asks u a n r = record { come = c.in-Ok.ensures.came; had = c.in-Ok.ensures.had; counts = c.in-Ok.ensures.counts; distinct = c.requires.distinct } in
+    let b = g.F.Files.view c.write_arrivals.new.files in
     let x = c.in-Ok-write_arrivals.ensures in
-    accepts_since _ _ n c.in-Some.found.now
-    (begun_of _ _ _ n (record { keeps = c.in-Ok.ensures.keeps; only = c.in-Ok.ensures.only }) c.requires.distinct x.keeps (record { part = x.new; one = x.one; named = x.named })) c.requires.distinct
-    (accepts_of _ _ _ c.in-Ok.conf c.in-Some.found.now c.in-Ok.ensures.read (sym c.in-Some.ensures))
+    let w : IsWritten u a b n seed count r =
+    record { asks = k; file = x.came.0; came = x.came.1; whole = x.whole; counts = x.counts; said = x.said } in
+    let y = c.in-Err-open_arrivals.ensures in
+    open_failed u a b _ n seed count r c.in-Err-open_arrivals.failure w y.along y.said y.why
 
-pub returns-in-Err-play_found-clause-ends : goal.returns-in-Err-play_found-clause-ends
-returns-in-Err-play_found-clause-ends g c =
-    let n = names_read c.args.words.now.play in
-    let x = c.in-Ok-write_arrivals.ensures in
-    let y = c.in-Err-play_found.ensures in
-    let P : Failure → Type 0 = λ f. MakeEnds (g.F.Files.view c.args.files.now) (g.F.Files.view c.play_found.new.files) n c.args.words.now.play.seed c.args.words.now.count (Err f) in
-    subst P (sym c.failure-in-Err-play_found.ensures)
-    (failed_ends _ _ _ n c.args.words.now.play.seed c.args.words.now.count c.in-Some.found.now c.in-Err-play_found.fault
-    (written_of _ _ _ n c.args.words.now.play.seed c.args.words.now.count c.in-Some.found.now
-    (begun_of _ _ _ n (record { keeps = c.in-Ok.ensures.keeps; only = c.in-Ok.ensures.only }) c.requires.distinct x.keeps (record { part = x.new; one = x.one; named = x.named })) c.requires.distinct
-    (λ t. x.whole (c.in-Ok.ensures.keeps.tells ∙ t))
-    (c.generated_captures_read.ensures.capture c.args.words.now.play.seed c.args.words.now.count c.requires.few)
-    (accepts_of _ _ _ c.in-Ok.conf c.in-Some.found.now c.in-Ok.ensures.read (sym c.in-Some.ensures)) (x.said ∙ c.in-Ok.ensures.said) _ y.ends y.high)
-    y.ends)
+pub play_source-requires-clause-configured : goal.play_source-requires-clause-configured
+play_source-requires-clause-configured g c =
+    let h = c.in-Ok.ensures.had.accepted in
+    subst IsConfigured (sym c.play_of-play.ensures.interface) (configured_of _ h.text _ _ h.read c.found-interface.ensures)
 
-pub returns-in-Ok-say_summary-clause-ends : goal.returns-in-Ok-say_summary-clause-ends
-returns-in-Ok-say_summary-clause-ends g c =
-    let n = names_read c.args.words.now.play in
-    let x = c.in-Ok-write_arrivals.ensures in
-    let y = c.in-Ok-play_found.ensures in
-    said_ends _ _ _ _ n c.args.words.now.play.seed c.args.words.now.count c.in-Some.found.now c.in-Ok-play_found.totals
-    (written_of _ _ _ n c.args.words.now.play.seed c.args.words.now.count c.in-Some.found.now
-    (begun_of _ _ _ n (record { keeps = c.in-Ok.ensures.keeps; only = c.in-Ok.ensures.only }) c.requires.distinct x.keeps (record { part = x.new; one = x.one; named = x.named })) c.requires.distinct
-    (λ t. x.whole (c.in-Ok.ensures.keeps.tells ∙ t))
-    (c.generated_captures_read.ensures.capture c.args.words.now.play.seed c.args.words.now.count c.requires.few)
-    (accepts_of _ _ _ c.in-Ok.conf c.in-Some.found.now c.in-Ok.ensures.read (sym c.in-Some.ensures)) (x.said ∙ c.in-Ok.ensures.said) _ y.done.ends y.high)
-    y.done c.in-Ok-say_summary.ensures.said
-    (same_trans _ _ _ c.in-Ok.ensures.no_fault (same_trans _ _ _ x.no_fault (same_trans _ _ _ y.done.ends.comes.no_fault c.in-Ok-say_summary.ensures.no_fault)))
+pub play_source-requires-clause-few : goal.play_source-requires-clause-few
+play_source-requires-clause-few g c =
+    let P : Given → Type 0 = λ y. y.rest ≡ true → length y.front.items ≤ 24 in
+    subst P (sym c.play_of-play.ensures.given) (λ e. let h = c.in-Ok-open_arrivals.ensures.few in omega (arith, h))
 
-pub returns-clause-ends : goal.returns-clause-ends
-returns-clause-ends g c =
+pub returns-in-Err-play_source : goal.returns-in-Err-play_source
+returns-in-Err-play_source g c =
     let n = names_read c.args.words.now.play in
+    let seed = c.args.words.now.play.seed in
+    let count = c.args.words.now.count in
+    let u = g.F.Files.view c.args.files.now in
+    let a = g.F.Files.view c.read_configuration.new.files in
+    let r = c.in-Ok.read in
+    let k : Asks u a n r = record { come = c.in-Ok.ensures.came; had = c.in-Ok.ensures.had; counts = c.in-Ok.ensures.counts; distinct = c.requires.distinct } in
+    let b = g.F.Files.view c.write_arrivals.new.files in
     let x = c.in-Ok-write_arrivals.ensures in
-    let y = c.in-Ok-play_found.ensures in
-    let z = c.in-Err-say_summary.ensures in
-    let b : HasBegun (g.F.Files.view c.args.files.now) (g.F.Files.view c.write_arrivals.new.files) n =
-    begun_of _ (g.F.Files.view c.read_conf.new.files) _ n (record { keeps = c.in-Ok.ensures.keeps; only = c.in-Ok.ensures.only }) c.requires.distinct x.keeps
-    (record { part = x.new; one = x.one; named = x.named }) in
-    let P : Failure → Type 0 = λ f. MakeEnds (g.F.Files.view c.args.files.now) (g.F.Files.view c.say_summary.new.files) n c.args.words.now.play.seed c.args.words.now.count (Err f) in
-    subst P (sym c.say_failure.ensures)
-    (unsaid_ends _ _ _ _ n c.args.words.now.play.seed c.args.words.now.count c.in-Some.found.now c.in-Ok-play_found.totals c.in-Err-say_summary.trouble
-    (written_of _ _ _ n c.args.words.now.play.seed c.args.words.now.count c.in-Some.found.now b c.requires.distinct
-    (λ t. x.whole (c.in-Ok.ensures.keeps.tells ∙ t))
-    (c.generated_captures_read.ensures.capture c.args.words.now.play.seed c.args.words.now.count c.requires.few)
-    (accepts_of _ _ _ c.in-Ok.conf c.in-Some.found.now c.in-Ok.ensures.read (sym c.in-Some.ensures)) (x.said ∙ c.in-Ok.ensures.said) _ y.done.ends y.high)
-    y.done z.refused
-    (λ e. rose_later _ _ _ (b.write 0) (rose_later _ _ _ (y.done.ends.leaves.files.others.later.write 0)
-    (z.failed (ap {B = Result (Unit {0}) Trouble} (λ (t : Trouble). Err t) e)))))
+    let w : IsWritten u a b n seed count r =
+    record { asks = k; file = x.came.0; came = x.came.1; whole = x.whole; counts = x.counts; said = x.said } in
+    let d = g.F.Files.view c.open_arrivals.new.files in
+    let p = c.play_of-play.result in
+    let y = c.in-Ok-open_arrivals.ensures in
+    let o = c.play_of-play.ensures in
+    let P : ℕ → Type 0 = λ f. Came (opened_at n ∷ []) (f ∷ []) b d in
+    let Q : Given → Type 0 = λ z. z.rest ≡ true in
+    let R : Given → Type 0 = λ z. IsTrue b.tells → (bytes : List ℕ) → b.bytes n.arrivals ≡ Some bytes
+    → with_front true true z.front.items (d.left p.file) ≡ Some bytes in
+    let S : ℕ → Type 0 = λ f. IsTrue b.tells → (bytes : List ℕ) → b.bytes n.arrivals ≡ Some bytes
+    → with_front true true c.in-Ok-open_arrivals.opened.1.front.items (d.left f) ≡ Some bytes in
+    let m : Begins u a b d n seed count p r = record {
+      written = w;
+      opened = subst P (sym o.file) y.came;
+      counts = y.counts;
+      said = y.said;
+      rest = subst Q (sym o.given) y.rest;
+      behind = subst R (sym o.given) (subst S (sym o.file) y.behind);
+      found = c.found-interface.ensures ∙ ap {B = Option Interface} Some (sym o.interface);
+      seeded = o.seed;
+      places = o.places;
+    } in
+    let v = g.F.Files.view c.play_source.new.files in
+    let e : Ended _ u a b d v n seed count p r (Err c.in-Err-play_source.fault) = record {
+      begins = m;
+      only = c.in-Err-play_source.ensures.only;
+      ended = c.in-Err-play_source.ensures.ended u (before_play n) (r.file ∷ w.file ∷ p.file ∷ []) (begins_behind u a b d n seed count p r m);
+      since = (c.in-Err-play_source.ensures.ended a (made_at n ∷ opened_at n ∷ []) (w.file ∷ p.file ∷ []) (begins_since u a b d n seed count p r m)).along;
+    } in
+    let T : Failure → Type 0 = λ f. MakeEnds u v n seed count (Err f) in
+    subst T (sym c.play_failure.ensures) (make_failed _ u a b d v n seed count p r c.in-Err-play_source.fault e)
+
+pub returns-in-Ok-say_summary : goal.returns-in-Ok-say_summary
+returns-in-Ok-say_summary g c =
+    let n = names_read c.args.words.now.play in
+    let seed = c.args.words.now.play.seed in
+    let count = c.args.words.now.count in
+    let u = g.F.Files.view c.args.files.now in
+    let a = g.F.Files.view c.read_configuration.new.files in
+    let r = c.in-Ok.read in
+    let k : Asks u a n r = record { come = c.in-Ok.ensures.came; had = c.in-Ok.ensures.had; counts = c.in-Ok.ensures.counts; distinct = c.requires.distinct } in
+    let b = g.F.Files.view c.write_arrivals.new.files in
+    let x = c.in-Ok-write_arrivals.ensures in
+    let w : IsWritten u a b n seed count r =
+    record { asks = k; file = x.came.0; came = x.came.1; whole = x.whole; counts = x.counts; said = x.said } in
+    let d = g.F.Files.view c.open_arrivals.new.files in
+    let p = c.play_of-play.result in
+    let y = c.in-Ok-open_arrivals.ensures in
+    let o = c.play_of-play.ensures in
+    let P : ℕ → Type 0 = λ f. Came (opened_at n ∷ []) (f ∷ []) b d in
+    let Q : Given → Type 0 = λ z. z.rest ≡ true in
+    let R : Given → Type 0 = λ z. IsTrue b.tells → (bytes : List ℕ) → b.bytes n.arrivals ≡ Some bytes
+    → with_front true true z.front.items (d.left p.file) ≡ Some bytes in
+    let S : ℕ → Type 0 = λ f. IsTrue b.tells → (bytes : List ℕ) → b.bytes n.arrivals ≡ Some bytes
+    → with_front true true c.in-Ok-open_arrivals.opened.1.front.items (d.left f) ≡ Some bytes in
+    let m : Begins u a b d n seed count p r = record {
+      written = w;
+      opened = subst P (sym o.file) y.came;
+      counts = y.counts;
+      said = y.said;
+      rest = subst Q (sym o.given) y.rest;
+      behind = subst R (sym o.given) (subst S (sym o.file) y.behind);
+      found = c.found-interface.ensures ∙ ap {B = Option Interface} Some (sym o.interface);
+      seeded = o.seed;
+      places = o.places;
+    } in
+    let v = g.F.Files.view c.play_source.new.files in
+    let e : Ended _ u a b d v n seed count p r (Ok c.in-Ok-play_source.totals) = record {
+      begins = m;
+      only = c.in-Ok-play_source.ensures.only;
+      ended = c.in-Ok-play_source.ensures.ended u (before_play n) (r.file ∷ w.file ∷ p.file ∷ []) (begins_behind u a b d n seed count p r m);
+      since = (c.in-Ok-play_source.ensures.ended a (made_at n ∷ opened_at n ∷ []) (w.file ∷ p.file ∷ []) (begins_since u a b d n seed count p r m)).along;
+    } in
+    make_said _ u a b d v _ n seed count p r c.in-Ok-play_source.totals e c.in-Ok-say_summary.ensures.said c.in-Ok-say_summary.ensures.counts
+
+pub returns : goal.returns
+returns g c =
+    let n = names_read c.args.words.now.play in
+    let seed = c.args.words.now.play.seed in
+    let count = c.args.words.now.count in
+    let u = g.F.Files.view c.args.files.now in
+    let a = g.F.Files.view c.read_configuration.new.files in
+    let r = c.in-Ok.read in
+    let k : Asks u a n r = record { come = c.in-Ok.ensures.came; had = c.in-Ok.ensures.had; counts = c.in-Ok.ensures.counts; distinct = c.requires.distinct } in
+    let b = g.F.Files.view c.write_arrivals.new.files in
+    let x = c.in-Ok-write_arrivals.ensures in
+    let w : IsWritten u a b n seed count r =
+    record { asks = k; file = x.came.0; came = x.came.1; whole = x.whole; counts = x.counts; said = x.said } in
+    let d = g.F.Files.view c.open_arrivals.new.files in
+    let p = c.play_of-play.result in
+    let y = c.in-Ok-open_arrivals.ensures in
+    let o = c.play_of-play.ensures in
+    let P : ℕ → Type 0 = λ f. Came (opened_at n ∷ []) (f ∷ []) b d in
+    let Q : Given → Type 0 = λ z. z.rest ≡ true in
+    let R : Given → Type 0 = λ z. IsTrue b.tells → (bytes : List ℕ) → b.bytes n.arrivals ≡ Some bytes
+    → with_front true true z.front.items (d.left p.file) ≡ Some bytes in
+    let S : ℕ → Type 0 = λ f. IsTrue b.tells → (bytes : List ℕ) → b.bytes n.arrivals ≡ Some bytes
+    → with_front true true c.in-Ok-open_arrivals.opened.1.front.items (d.left f) ≡ Some bytes in
+    let m : Begins u a b d n seed count p r = record {
+      written = w;
+      opened = subst P (sym o.file) y.came;
+      counts = y.counts;
+      said = y.said;
+      rest = subst Q (sym o.given) y.rest;
+      behind = subst R (sym o.given) (subst S (sym o.file) y.behind);
+      found = c.found-interface.ensures ∙ ap {B = Option Interface} Some (sym o.interface);
+      seeded = o.seed;
+      places = o.places;
+    } in
+    let v = g.F.Files.view c.play_source.new.files in
+    let e : Ended _ u a b d v n seed count p r (Ok c.in-Ok-play_source.totals) = record {
+      begins = m;
+      only = c.in-Ok-play_source.ensures.only;
+      ended = c.in-Ok-play_source.ensures.ended u (before_play n) (r.file ∷ w.file ∷ p.file ∷ []) (begins_behind u a b d n seed count p r m);
+      since = (c.in-Ok-play_source.ensures.ended a (made_at n ∷ opened_at n ∷ []) (w.file ∷ p.file ∷ []) (begins_since u a b d n seed count p r m)).along;
+    } in
+    make_unsaid _ u a b d v _ n seed count p r c.in-Ok-play_source.totals c.in-Err-say_summary.failure e c.in-Err-say_summary.ensures.refused
+    c.in-Err-say_summary.ensures.why

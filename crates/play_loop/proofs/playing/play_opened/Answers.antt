@@ -1,5 +1,5 @@
 -- Each end of the play of a capture: before it, at an output, and after its records.
-use Rattle.std.proofs.Common.{◌∙◌, inl, ℕ, List, [], Err, refl, ap, sym, subst, arith}
+use Rattle.std.proofs.Common.{◌∙◌, inl, ℕ, [], Err, refl, ap, sym, subst, arith}
 use Rattle.std.specs.Prelude.{Result}
 use Rattle.capture_model.specs.Header.{capture_header}
 use Rattle.pcap_files.specs.declared.fault.CaptureFault.{CaptureFault}

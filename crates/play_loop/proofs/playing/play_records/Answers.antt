@@ -4,6 +4,7 @@ use Rattle.std.specs.Prelude.{Result}
 use Rattle.std.specs.declared.option.Option.{Option}
 use Rattle.altq_model.specs.Arrivals.{Captured, bare_arrival, bare_arrivals}
 use Rattle.altq_model.specs.History.{LabelledEvent}
+use Rattle.discipline.proofs.ViewLaws.{kind_refl, kind_trans}
 use Rattle.pcap_files.specs.declared.fault.CaptureFault.{CaptureFault}
 use Rattle.pcap_files.specs.declared.fault.CaptureFault.TheVariants as capture
 use Rattle.pcap_files.specs.declared.record.Found.{Found}
@@ -42,7 +43,8 @@ records-init g c = record {
   sound = c.requires.reads.sound;
   same = record { departures = refl; fates = refl };
   others = played_nothing (g.F.Files.view c.args.files.now) c.args.reader.now.file c.args.outputs.now.departures c.args.outputs.now.fates;
-  before = refl;
+  fixed = refl;
+  kind = kind_refl (g.D.Discipline.view c.args.discipline.now);
   early = omega arith;
   reading = (
     [],
@@ -216,7 +218,8 @@ records-preserved g c =
     record {
       file = file;
       sound = c.in-Ok.ensures.sound;
-      before = c.in-Ok-Made-play_packet.ensures.before ∙ c.records.invariant.before;
+      fixed = c.in-Ok-Made-play_packet.ensures.fixed ∙ c.records.invariant.fixed;
+      kind = kind_trans _ _ _ c.records.invariant.kind c.play_packet.ensures.kind;
       no_fault = same_counts _ _ _ (same_counts _ _ _ c.records.invariant.no_fault c.in-Ok.ensures.counts) only.no_fault;
       same = record { departures = only.same.departures ∙ c.records.invariant.same.departures; fates = only.same.fates ∙ c.records.invariant.same.fates };
       others = wrote_more c.requires.under.written.given read c.records.invariant.same.departures c.records.invariant.same.fates only.others;

@@ -1,6 +1,7 @@
 use Rattle.std.proofs.Common.{◌≡◌, ◌-◌, ◌<◌, ◌^◌, List, None}
 use Rattle.altq_model.specs.Arrivals.{Captured}
 use Rattle.altq_model.specs.History.{LabelledEvent}
+use Rattle.discipline.specs.View.{SameKind}
 use Rattle.pcap_files.specs.Reading.{answered}
 use Rattle.play_base.specs.View.{SameCounts}
 use Rattle.play_loop.specs.Kept.{OnlyPlayed}
@@ -20,7 +21,8 @@ invariant-records g l =
       sound : l.reader.fault ≡ None;
       same : SameFiles l.fn.outputs l.outputs;
       others : OnlyPlayed l.fn.reader.file l.fn.outputs.departures l.fn.outputs.fates (g.F.Files.view l.fn.files) (g.F.Files.view l.files);
-      before : g.K.Keeper.before l.keeper ≡ g.K.Keeper.before l.fn.keeper;
+      fixed : g.K.Keeper.fixed l.keeper ≡ g.K.Keeper.fixed l.fn.keeper;
+      kind : SameKind (g.D.Discipline.view l.fn.discipline) (g.D.Discipline.view l.discipline);
       no_fault : SameCounts (g.F.Files.view l.fn.files) (g.F.Files.view l.files);
       early : l.latest < 2 ^ 62;
       reading : (arrived : List Captured) × (k : List LabelledEvent) × IsReading x m l.words (StartsOn (g.F.Files.view l.fn.files) l.fn.reader) l.reader l.latest arrived k;

@@ -1,5 +1,5 @@
 -- The play ends before its capture, or with it, and then the statistics are written.
-use Rattle.std.proofs.Common.{◌∙◌, ℕ, List, [], subst, arith}
+use Rattle.std.proofs.Common.{◌∙◌, ℕ, List, [], refl, subst, arith}
 use Rattle.altq_model.specs.declared.Counts.{Counts}
 use Rattle.play_base.specs.View.{Wrote, WroteFront}
 use Rattle.play_base.proofs.ViewLaws.{same_trans}
@@ -8,7 +8,7 @@ use Rattle.play_text.specs.Statistics.{stats_of}
 use Rattle.play_loop.specs.Setup.{Setup, setup_of}
 use Rattle.play_loop.specs.Told.{Tells}
 use Rattle.play_loop.proofs.PlayLemmas.{stopped_empty}
-use Rattle.play_loop.proofs.StatsLemmas.{explains_stats, fronts_whole, keeps_played, keeps_written, leaves_none, leaves_stats, no_stats, plays_told, tells_whole}
+use Rattle.play_loop.proofs.StatsLemmas.{explains_stats, fronts_whole, keeps_played, keeps_written, leaves_none, leaves_stats, no_stats, plays_told, tells_whole, took_played, took_written}
 use Rattle.play_loop.proofs.playing.play_told.Given.{Over}
 use Rattle.play_loop.proofs.playing.play_told.Goals.{In-Ok-write_stats}
 use Rattle.play_loop.proofs.playing.play_told.Goals as goal
@@ -45,6 +45,18 @@ told g c =
     let P : List Counts → Type 0 = λ ks. Wrote (g.F.Files.view c.play_capture.new.files) (g.F.Files.view c.write_stats.new.files) c.args.opened.now.stats (stats_of c.args.names.now ks) in
     tells_whole c.requires.ready c.in-Ok-play_capture.ensures.others.keeps _ _ _ _ c.in-Ok-play_capture.tally c.in-Ok-play_capture.ensures.answer.done
     (subst P c.as_slice.ensures.value c.in-Ok-write_stats.ensures.wrote)
+
+pub returns-in_default-clause-took : goal.returns-in_default-clause-took
+returns-in_default-clause-took g c = λ h all l. ([], all, refl, l)
+
+pub returns-in-Err-clause-took : goal.returns-in-Err-clause-took
+returns-in-Err-clause-took g c = took_played c.args.opened.now c.requires.ready c.in-Err.ensures.others
+
+pub returns-in-Ok-write_stats-clause-took : goal.returns-in-Ok-write_stats-clause-took
+returns-in-Ok-write_stats-clause-took g c = took_written c.args.opened.now c.requires.ready c.in-Ok-play_capture.ensures.others c.in-Ok-write_stats.ensures.wrote
+
+pub returns-clause-took : goal.returns-clause-took
+returns-clause-took g c = took_written c.args.opened.now c.requires.ready c.in-Ok-play_capture.ensures.others c.in-Err-write_stats.ensures.front.1
 
 pub returns-in-Ok-write_stats-clause-done : goal.returns-in-Ok-write_stats-clause-done
 returns-in-Ok-write_stats-clause-done g c = plays_told _ _ (g.K.Keeper.told c.play_capture.new.keeper) (g.F.Files.view c.args.files.now) (g.F.Files.view c.write_stats.new.files) c.args.opened.now c.in-Ok-play_capture.tally.totals (told g (goal.at.returns-in-Ok-write_stats-clause-done g c).In-Ok-write_stats)

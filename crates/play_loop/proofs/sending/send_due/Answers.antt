@@ -2,6 +2,7 @@
 use Rattle.std.proofs.Common.{◌≡◌, ◌∙◌, ◌∷◌, List, refl, arith}
 use Rattle.altq_model.specs.Arrivals.{Captured, bare_arrivals}
 use Rattle.altq_model.specs.History.{DrawnWords, LabelledEvent}
+use Rattle.discipline.proofs.ViewLaws.{kind_refl, kind_trans}
 use Rattle.play_core.specs.Ended.{IsCutOff}
 use Rattle.play_core.specs.Turns.{arrives, departs}
 use Rattle.play_loop.specs.Setup.{Setup}
@@ -16,7 +17,8 @@ use Rattle.play_loop.proofs.sending.send_due.Goals as goal
 pub turns-init : goal.turns-init
 turns-init g c = record {
   only = adds_nothing (g.F.Files.view c.args.files.now) c.args.outputs.now tt;
-  before = refl;
+  fixed = refl;
+  kind = kind_refl (g.D.Discipline.view c.args.discipline.now);
   under = λ x arrived w k u e. (k, u, (refl, refl));
 }
 
@@ -70,7 +72,8 @@ turns-smaller g c =
 pub turns-preserved : goal.turns-preserved
 turns-preserved g c = record {
   only = then_ok c.requires.under.4.written.given c.turns.invariant.only c.in-Ok.ensures.only;
-  before = c.add_sent.ensures.before ∙ c.turns.invariant.before;
+  fixed = c.add_sent.ensures.fixed ∙ c.turns.invariant.fixed;
+  kind = kind_trans _ _ _ c.turns.invariant.kind c.turn.ensures.kind;
   under = λ x arrived w g' u e.
       let k = c.turns.invariant.under x arrived w g' u e in
       let s = sent g (goal.at.turns-preserved g c).In-Send k.1 (e ∙ arrives_same arrived g' k.0 k.2.0) in (

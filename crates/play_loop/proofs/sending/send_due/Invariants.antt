@@ -1,6 +1,7 @@
 use Rattle.std.proofs.Common.{◌≡◌, ◌-◌, List, Ok}
 use Rattle.altq_model.specs.Arrivals.{Captured}
 use Rattle.altq_model.specs.History.{DrawnWords, LabelledEvent}
+use Rattle.discipline.specs.View.{SameKind}
 use Rattle.play_core.specs.Turns.{arrives}
 use Rattle.play_loop.specs.Outputs.{AddsOnly}
 use Rattle.play_loop.specs.Setup.{Setup}
@@ -14,7 +15,8 @@ invariant-turns g l =
     let n : Moment = moment (g.D.Discipline.view l.discipline) (g.F.Files.view l.files) l.outputs (g.K.Keeper.told l.keeper) l.progress in
     record {
       only : AddsOnly {A = Unit {0}} (g.F.Files.view l.fn.files) (g.F.Files.view l.files) l.fn.outputs l.outputs (Ok tt);
-      before : g.K.Keeper.before l.keeper ≡ g.K.Keeper.before l.fn.keeper;
+      fixed : g.K.Keeper.fixed l.keeper ≡ g.K.Keeper.fixed l.fn.keeper;
+      kind : SameKind (g.D.Discipline.view l.fn.discipline) (g.D.Discipline.view l.discipline);
       under : (x : Setup) (arrived : List Captured) (w : DrawnWords) (k : List LabelledEvent) → IsUnderway (classed c x) m arrived w k → l.arrival ≡ arrives arrived k
           → (h : List LabelledEvent) × IsUnderway (classed c x) n arrived w h × SameOffers k h;
     }

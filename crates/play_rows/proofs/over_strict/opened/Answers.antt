@@ -1,12 +1,9 @@
 -- The outputs are ready, since the arrivals were opened before them.
-use Rattle.std.proofs.Common.{ℕ, List}
-use Rattle.play_base.specs.View.{View, Opened}
-use Rattle.play_files.specs.Opening.{IsOpened}
+use Rattle.std.proofs.Common.{arith}
+use Rattle.play_rows.proofs.ReadyLemmas.{are_ready}
 use Rattle.play_rows.proofs.over_strict.opened.Goals as goal
 
-opened_is : (a b : View) (name : List ℕ) (file : ℕ) → Opened a b 2 name file → IsOpened a b name file
-opened_is a b name file x = record { is_new = x.is_new; keeps = x.keeps; there = λ t. (x.left t).0 }
-
-pub returns-in-Ok-create_outputs : goal.returns-in-Ok-create_outputs
-returns-in-Ok-create_outputs c =
-    (c.in-Ok-create_outputs.ensures.opened _ (opened_is _ _ _ c.in-Ok.arrivals c.in-Ok.ensures.opened)).ready
+pub returns : goal.returns
+returns c =
+    are_ready _ _ _ _ _ _ c.args.words.now.arrivals.now c.args.words.now.departures.now c.args.words.now.fates.now c.args.words.now.stats.now _ (omega arith)
+    c.requires c.in-Ok.ensures.opened c.in-Ok-create.ensures.created c.in-Ok-create-2.ensures.created c.in-Ok-create-3.ensures.created

@@ -7,5 +7,5 @@ named_two : (names : NameList) (first : Bool) → names ≡ (1, codes "voice") �
 named_two names true e = let P : NameList → Type 0 = λ l. HasClass l 1 in subst P (sym e) refl
 named_two names false e = let P : NameList → Type 0 = λ l. HasClass l 2 in subst P (sym e) refl
 
-pub play-requires-clause-named : goal.play-requires-clause-named
-play-requires-clause-named c = λ frame. named_two c.in-Ok.names _ c.in-Ok.ensures
+pub play_told-requires-clause-named : goal.play_told-requires-clause-named
+play_told-requires-clause-named c = λ frame. named_two c.in-Ok.names _ c.in-Ok.ensures

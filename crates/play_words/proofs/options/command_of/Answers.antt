@@ -1,7 +1,7 @@
 use Rattle.std.proofs.Common.{◌∙◌, ap, sym}
 use Rattle.std.proofs.lemmas.Result.{IfOk-weaker}
 use Rattle.play_words.specs.Options.{app_by}
-use Rattle.play_words.proofs.OptionLemmas.{chain_built, check_built, condition_built, make_built, play_built, verify_built}
+use Rattle.play_words.proofs.OptionLemmas.{bound_built, chain_built, check_built, condition_built, make_built, play_built, verify_built}
 use Rattle.play_words.proofs.options.command_of.Goals as goal
 
 pub returns-in-Play : goal.returns-in-Play
@@ -21,3 +21,6 @@ returns-in-Chain c = IfOk-weaker c.command-in-Chain.result _ _ (λ command is. i
 
 pub returns-in-Condition : goal.returns-in-Condition
 returns-in-Condition c = IfOk-weaker c.command-in-Condition.result _ _ (λ command is. is ∙ condition_built ∙ sym (ap app_by c.in-Condition.is)) c.command-in-Condition.ensures
+
+pub returns-in-Bound : goal.returns-in-Bound
+returns-in-Bound c = IfOk-weaker c.command-in-Bound.result _ _ (λ command is. is ∙ bound_built ∙ sym (ap app_by c.in-Bound.is)) c.command-in-Bound.ensures

@@ -1,13 +1,19 @@
-use Rattle.command_base.specs.Names.{names_read}
-use Rattle.shares_command.proofs.LineLemmas.{none_said}
+use Rattle.std.specs.Prelude.{string_bytes}
+use Rattle.altq_model.specs.History.{unlabelled}
+use Rattle.play_command.proofs.StayLaws.{done_as, failed_so}
+use Rattle.shares_command.specs.Measuring.{AreLinesOf, Unkept}
+use Rattle.shares_command.proofs.LineLemmas.{no_lines}
 use Rattle.shares_command.proofs.measuring.play_cbq.Goals as goal
 
-pub returns-in-Ok-clause-done : goal.returns-in-Ok-clause-done
-returns-in-Ok-clause-done g c =
-    let x = c.in-Ok.ensures.done in
-    let a = g.F.Files.view c.args.files.now in
-    let v = g.F.Files.view c.play_found.new.files in
-    record {
-      ends = x.ends;
-      to = λ t. none_said a v (names_read c.args.words.now) c.args.words.now.seed c.args.found.now _ c.requires.accepted c.requires.kind c.new.ensures.bytes t (x.to t).0;
-    }
+pub returns-in-Ok-clause-ended : goal.returns-in-Ok-clause-ended
+returns-in-Ok-clause-ended g c before places opened b =
+    let i = c.args.play.now.interface.now in (
+      c.in-Ok.field-0,
+      done_as _ (λ h. AreLinesOf i (unlabelled h) (string_bytes c.new.result)) _ Unkept _ _ _ places opened c.args.play.now _
+          (λ h s. no_lines i (unlabelled h) (string_bytes c.new.result) c.requires.kind c.new.ensures.bytes) (λ k x. tt)
+          (c.in-Ok.ensures.ended before places opened b),
+    )
+
+pub returns-clause-ended : goal.returns-clause-ended
+returns-clause-ended g c before places opened b =
+    failed_so _ (λ h. Unit {0}) _ Unkept _ _ _ places opened c.args.play.now _ (c.in-Err.ensures.ended before places opened b)

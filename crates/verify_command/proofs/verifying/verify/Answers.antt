@@ -1,189 +1,141 @@
--- File by file: what was had so far, and why the next one was not.
-use Rattle.std.proofs.Common.{Ok, Err, sym, subst, arith}
-use Rattle.std.specs.Prelude.{IsTrue}
-use Rattle.conf_lines.specs.declared.fault.ConfPlace.{ConfPlace}
-use Rattle.command_base.specs.Configuration.{Accepts}
-use Rattle.command_base.specs.declared.failure.Failure.{Failure}
-use Rattle.command_base.specs.declared.failure.Failure.TheVariants as failure
-use Rattle.command_base.specs.declared.fault.ConfigFault.TheVariants as conf
-use Rattle.command_base.proofs.ReadingLemmas.{accepts_of, configured_of, fits, input_config, read_absent}
-use Rattle.verify_command.specs.Verifying.{VerifyEnds, inputs_of}
-use Rattle.verify_command.proofs.ComeLemmas.{AreHad, arrivals_fail, config_fails, departures_fail, fates_fail, had_fates, has_read, holds, refuted_fails, same_holds, same_judged, says_comes}
-use Rattle.verify_command.proofs.LeaveLemmas.{IsPassed, fails_at, fails_more, leaves_conf, leaves_said, reached_conf, reached_more}
-use Rattle.verify_command.proofs.TellLemmas.{told}
+-- File by file: how far it went, and how it ends there.
+use Rattle.std.proofs.Common.{◌∙◌, List, ℕ, Err, subst, sym}
+use Rattle.fate_timely.specs.declared.given.Late.{Late}
+use Rattle.file_judge.specs.Verdict.{AreVerified, IsUnverified}
+use Rattle.play_base.specs.View.{Said}
+use Rattle.run_outcomes.specs.declared.outcome.Failure.{Failure}
+use Rattle.command_form.specs.Names.{given_names_read}
+use Rattle.verify_command.specs.Lines.{verdict_text}
+use Rattle.verify_command.specs.Verifying.{VerifyEnds}
+use Rattle.verify_command.proofs.EndLemmas.{AreJudged, AtArrivals, AtDepartures, WentFar, arrivals_fail, at_arrivals, at_departures, departures_fail, fates_fail, found_fits, refuted, said, starved, unready, unsaid, went_far}
 use Rattle.verify_command.proofs.verifying.verify.Given.{Over}
-use Rattle.verify_command.proofs.verifying.verify.Goals.{After-deref, In-Some}
+use Rattle.verify_command.proofs.verifying.verify.Goals.{In-Ok-read_arrivals, In-Ok-read_departures, In-Ok-read_fates}
 use Rattle.verify_command.proofs.verifying.verify.Goals as goal
 
-pub returns-in-Err-clause-ends : goal.returns-in-Err-clause-ends
-returns-in-Err-clause-ends g c =
+pub returns-in-Err : goal.returns-in-Err
+returns-in-Err g c =
     let u = g.F.Files.view c.args.files.now in
-    let a = g.F.Files.view c.read_conf.new.files in
-    let n = inputs_of c.args.words.now in
+    let a = g.F.Files.view c.read_inputs.new.files in
+    let n = given_names_read c.args.words.now in
     let P : Failure → Type 0 = λ f. VerifyEnds u a n (Err f) in
-    subst P (sym c.failure.ensures)
-    (fails_at c.configurations_fit.ensures u a n _ (leaves_conf u a n (record { keeps = c.in-Err.ensures.keeps; only = c.in-Err.ensures.only }))
-    (config_fails u a n c.in-Err.fault (input_config u a n.config n.interface c.in-Err.fault c.in-Err.ensures.why)))
+    subst P (sym c.unready_failure.ensures) (unready n u a c.in-Err.unready c.in-Err.ensures.came c.in-Err.ensures.unready)
 
-pub returns-in_default-clause-ends : goal.returns-in_default-clause-ends
-returns-in_default-clause-ends g c =
-    let u = g.F.Files.view c.args.files.now in
-    let a = g.F.Files.view c.read_conf.new.files in
-    let n = inputs_of c.args.words.now in
-    let P : ConfPlace → Type 0 = λ p. VerifyEnds u a n (Err (failure.Configuration p)) in
-    subst P (sym c.absent.ensures)
-    (fails_at c.configurations_fit.ensures u a n _ (leaves_conf u a n (record { keeps = c.in-Ok.ensures.keeps; only = c.in-Ok.ensures.only }))
-    (config_fails u a n (conf.At _) (λ t. read_absent _ n.config n.interface c.in-Ok.conf c.in-Ok.ensures.read (sym c.in_default.ensures) t)))
-
-pub read_arrivals-requires : goal.read_arrivals-requires
-read_arrivals-requires g c = record {
-  fits = fits c.in-Some.found.now c.configurations_fit.ensures
-      (configured_of c.args.words.now.interface.now c.in-Ok.ensures.read.text c.in-Ok.conf c.in-Some.found.now c.in-Ok.ensures.read.reads (sym c.in-Some.ensures));
-}
+pub read_arrivals-requires-clause-fits : goal.read_arrivals-requires-clause-fits
+read_arrivals-requires-clause-fits g c =
+    found_fits c.configurations_fit.ensures (given_names_read c.args.words.now) _ _ c.found-interface.result.now c.in-Ok.inputs.0 c.in-Ok.inputs.1
+    c.in-Ok.ensures.had c.found-interface.ensures
 
 pub read_fates-requires : goal.read_fates-requires
 read_fates-requires g c = record {
-  fits = fits c.in-Some.found.now c.configurations_fit.ensures
-      (configured_of c.args.words.now.interface.now c.in-Ok.ensures.read.text c.in-Ok.conf c.in-Some.found.now c.in-Ok.ensures.read.reads (sym c.in-Some.ensures));
+  fits = found_fits c.configurations_fit.ensures (given_names_read c.args.words.now) _ _ c.found-interface.result.now c.in-Ok.inputs.0 c.in-Ok.inputs.1
+      c.in-Ok.ensures.had c.found-interface.ensures;
 }
-
--- once the configuration is read, the interface asked for is in it
-begun : (g : Over) (c : In-Some g)
-    → IsPassed (g.F.Files.view c.args.files.now) (g.F.Files.view c.read_conf.new.files) (inputs_of c.args.words.now)
-begun g c = reached_conf _ _ _ (record { keeps = c.in-Ok.ensures.keeps; only = c.in-Ok.ensures.only }) c.in-Ok.ensures.said c.in-Ok.ensures.no_fault
-
-accepted : (g : Over) (c : In-Some g)
-    → Accepts (g.F.Files.view c.args.files.now) (inputs_of c.args.words.now).config (inputs_of c.args.words.now).interface c.in-Some.found.now
-accepted g c = accepts_of _ _ _ c.in-Ok.conf c.in-Some.found.now c.in-Ok.ensures.read (sym c.in-Some.ensures)
-
-pub returns-in-Err-read_arrivals-clause-ends : goal.returns-in-Err-read_arrivals-clause-ends
-returns-in-Err-read_arrivals-clause-ends g c =
-    let u = g.F.Files.view c.args.files.now in
-    let a = g.F.Files.view c.read_conf.new.files in
-    let b = g.F.Files.view c.read_arrivals.new.files in
-    let n = inputs_of c.args.words.now in
-    let x = c.in-Err-read_arrivals.ensures in
-    let first = (goal.at.returns-in-Err-read_arrivals-clause-ends g c).In-Some in
-    fails_more c.configurations_fit.ensures u a b n 2 _ (omega arith) (omega arith) (begun g first) x.keeps x.opens
-    (arrivals_fail u a b n c.in-Some.found.now c.in-Err-read_arrivals.failure (begun g first).leaves.keeps (accepted g first) x.why)
-
-pub returns-in-Err-read_file-clause-ends : goal.returns-in-Err-read_file-clause-ends
-returns-in-Err-read_file-clause-ends g c =
-    let u = g.F.Files.view c.args.files.now in
-    let a = g.F.Files.view c.read_conf.new.files in
-    let b = g.F.Files.view c.read_arrivals.new.files in
-    let d = g.F.Files.view c.read_file.new.files in
-    let n = inputs_of c.args.words.now in
-    let y = c.in-Ok-read_arrivals.ensures in
-    let x = c.in-Err-read_file.ensures in
-    let first = (goal.at.returns-in-Err-read_file-clause-ends g c).In-Some in
-    let next = reached_more u a b n 2 (omega arith) (omega arith) (begun g first) y.keeps y.opens y.said y.no_fault in
-    let read = has_read u a n c.in-Some.found.now c.in-Ok-read_arrivals.records (begun g first).leaves.keeps (accepted g first) y.whole in
-    let P : Failure → Type 0 = λ f. VerifyEnds u d n (Err f) in
-    subst P (sym c.departures_failure.ensures)
-    (fails_more c.configurations_fit.ensures u b d n 3 _ (omega arith) (omega arith) next x.keeps x.opens
-    (departures_fail u b d n c.in-Some.found.now c.in-Ok-read_arrivals.records c.in-Err-read_file.fault next.leaves.keeps read x.why))
-
-pub returns-in-Err-read_fates-clause-ends : goal.returns-in-Err-read_fates-clause-ends
-returns-in-Err-read_fates-clause-ends g c =
-    let u = g.F.Files.view c.args.files.now in
-    let a = g.F.Files.view c.read_conf.new.files in
-    let b = g.F.Files.view c.read_arrivals.new.files in
-    let d = g.F.Files.view c.read_file.new.files in
-    let e = g.F.Files.view c.read_fates.new.files in
-    let n = inputs_of c.args.words.now in
-    let y = c.in-Ok-read_arrivals.ensures in
-    let z = c.in-Ok-read_file.ensures in
-    let x = c.in-Err-read_fates.ensures in
-    let first = (goal.at.returns-in-Err-read_fates-clause-ends g c).In-Some in
-    let next = reached_more u a b n 2 (omega arith) (omega arith) (begun g first) y.keeps y.opens y.said y.no_fault in
-    let then = reached_more u b d n 3 (omega arith) (omega arith) next z.keeps z.opens z.said z.no_fault in
-    let read = has_read u a n c.in-Some.found.now c.in-Ok-read_arrivals.records (begun g first).leaves.keeps (accepted g first) y.whole in
-    let had = holds u b n.departures c.in-Ok-read_file.departures.items next.leaves.keeps z.whole z.short in
-    let P : Failure → Type 0 = λ f. VerifyEnds u e n (Err f) in
-    subst P (sym c.fates_failure.ensures)
-    (fails_more c.configurations_fit.ensures u d e n 4 _ (omega arith) (omega arith) then x.keeps x.opens
-    (fates_fail u d e n c.in-Some.found.now c.in-Ok-read_arrivals.records c.in-Ok-read_file.departures.items c.in-Err-read_fates.fault then.leaves.keeps read had x.why))
 
 pub judge-requires-clause-interface : goal.judge-requires-clause-interface
 judge-requires-clause-interface g c =
-    fits c.in-Some.found.now c.configurations_fit.ensures
-    (configured_of c.args.words.now.interface.now c.in-Ok.ensures.read.text c.in-Ok.conf c.in-Some.found.now c.in-Ok.ensures.read.reads (sym c.in-Some.ensures))
+    found_fits c.configurations_fit.ensures (given_names_read c.args.words.now) _ _ c.found-interface.result.now c.in-Ok.inputs.0 c.in-Ok.inputs.1
+    c.in-Ok.ensures.had c.found-interface.ensures
+
+pub returns-in-Err-read_arrivals : goal.returns-in-Err-read_arrivals
+returns-in-Err-read_arrivals g c =
+    let x = c.in-Err-read_arrivals.ensures in
+    arrivals_fail c.configurations_fit.ensures (given_names_read c.args.words.now) (g.F.Files.view c.args.files.now) (g.F.Files.view c.read_inputs.new.files)
+    (g.F.Files.view c.read_arrivals.new.files) c.found-interface.result.now c.in-Ok.inputs.0 c.in-Ok.inputs.1 c.in-Err-read_arrivals.failure
+    c.in-Ok.ensures.came c.in-Ok.ensures.had c.found-interface.ensures x.on.some x.on.fewer x.why.cause
+
+arrivals_had : (g : Over) (c : In-Ok-read_arrivals g)
+    → AtArrivals (given_names_read c.args.words.now) (g.F.Files.view c.args.files.now) (g.F.Files.view c.read_arrivals.new.files) c.found-interface.result.now
+    c.in-Ok-read_arrivals.records
+arrivals_had g c =
+    let x = c.in-Ok-read_arrivals.ensures in
+    at_arrivals (given_names_read c.args.words.now) (g.F.Files.view c.args.files.now) (g.F.Files.view c.read_inputs.new.files)
+    (g.F.Files.view c.read_arrivals.new.files) c.found-interface.result.now c.in-Ok.inputs.0 c.in-Ok.inputs.1 c.in-Ok-read_arrivals.records
+    c.in-Ok.ensures.came c.in-Ok.ensures.had c.found-interface.ensures x.whole x.on.some x.on.fewer c.in-Ok.ensures.counts x.counts
+
+pub returns-in-Err-read_departures : goal.returns-in-Err-read_departures
+returns-in-Err-read_departures g c =
+    let x = c.in-Err-read_departures.ensures in
+    departures_fail c.configurations_fit.ensures (given_names_read c.args.words.now) (g.F.Files.view c.args.files.now)
+    (g.F.Files.view c.read_arrivals.new.files) (g.F.Files.view c.read_departures.new.files) c.found-interface.result.now c.in-Ok-read_arrivals.records
+    c.in-Err-read_departures.failure (arrivals_had g (goal.at.returns-in-Err-read_departures g c).In-Ok-read_arrivals) x.tried x.why
+
+departures_had : (g : Over) (c : In-Ok-read_departures g)
+    → AtArrivals (given_names_read c.args.words.now) (g.F.Files.view c.args.files.now) (g.F.Files.view c.read_arrivals.new.files) c.found-interface.result.now
+    c.in-Ok-read_arrivals.records
+    → AtDepartures (given_names_read c.args.words.now) (g.F.Files.view c.args.files.now) (g.F.Files.view c.read_departures.new.files)
+    c.found-interface.result.now c.in-Ok-read_arrivals.records c.in-Ok-read_departures.departures.items
+departures_had g c at =
+    let x = c.in-Ok-read_departures.ensures in
+    at_departures (given_names_read c.args.words.now) (g.F.Files.view c.args.files.now) (g.F.Files.view c.read_arrivals.new.files)
+    (g.F.Files.view c.read_departures.new.files) c.found-interface.result.now c.in-Ok-read_arrivals.records c.in-Ok-read_departures.departures.items
+    at x.read x.whole x.counts
+
+pub returns-in-Err-read_fates : goal.returns-in-Err-read_fates
+returns-in-Err-read_fates g c =
+    let x = c.in-Err-read_fates.ensures in
+    let at = goal.at.returns-in-Err-read_fates g c in
+    fates_fail c.configurations_fit.ensures (given_names_read c.args.words.now) (g.F.Files.view c.args.files.now)
+    (g.F.Files.view c.read_departures.new.files) (g.F.Files.view c.read_fates.new.files) c.found-interface.result.now c.in-Ok-read_arrivals.records
+    c.in-Ok-read_departures.departures.items c.in-Err-read_fates.failure
+    (departures_had g at.In-Ok-read_departures (arrivals_had g at.In-Ok-read_arrivals)) x.tried x.why
 
 -- once all four files are read
-all : (g : Over) (c : After-deref g)
-    → IsPassed (g.F.Files.view c.args.files.now) (g.F.Files.view c.read_conf.new.files) (inputs_of c.args.words.now)
-    → Accepts (g.F.Files.view c.args.files.now) (inputs_of c.args.words.now).config (inputs_of c.args.words.now).interface c.in-Some.found.now
-    → IsPassed (g.F.Files.view c.args.files.now) (g.F.Files.view c.read_fates.new.files) (inputs_of c.args.words.now)
-    × (IsTrue (g.F.Files.view c.args.files.now).tells
-    → AreHad (g.F.Files.view c.args.files.now) (inputs_of c.args.words.now) c.in-Some.found.now c.in-Ok-read_arrivals.records c.deref.result.now c.in-Ok-read_fates.fates)
-all g c begun accepted =
-    let u = g.F.Files.view c.args.files.now in
-    let a = g.F.Files.view c.read_conf.new.files in
-    let b = g.F.Files.view c.read_arrivals.new.files in
-    let d = g.F.Files.view c.read_file.new.files in
-    let e = g.F.Files.view c.read_fates.new.files in
-    let n = inputs_of c.args.words.now in
-    let y = c.in-Ok-read_arrivals.ensures in
-    let z = c.in-Ok-read_file.ensures in
-    let f = c.in-Ok-read_fates.ensures in
-    let next = reached_more u a b n 2 (omega arith) (omega arith) begun y.keeps y.opens y.said y.no_fault in
-    let then = reached_more u b d n 3 (omega arith) (omega arith) next z.keeps z.opens z.said z.no_fault in (
-      reached_more u d e n 4 (omega arith) (omega arith) then f.keeps f.opens f.said f.no_fault,
-      λ t. record {
-        arrivals = has_read u a n c.in-Some.found.now c.in-Ok-read_arrivals.records begun.leaves.keeps accepted y.whole t;
-        departures_had = same_holds u n.departures c.in-Ok-read_file.departures.items c.deref.result.now c.deref.ensures.value
-            (holds u b n.departures c.in-Ok-read_file.departures.items next.leaves.keeps z.whole z.short) t;
-        fates_had = had_fates u d c.in-Some.found.now n.fates c.in-Ok-read_fates.fates then.leaves.keeps f.whole t;
-      },
-    )
+all_had : (g : Over) (c : In-Ok-read_fates g)
+    → AtDepartures (given_names_read c.args.words.now) (g.F.Files.view c.args.files.now) (g.F.Files.view c.read_departures.new.files)
+    c.found-interface.result.now c.in-Ok-read_arrivals.records c.in-Ok-read_departures.departures.items
+    → WentFar (given_names_read c.args.words.now) (g.F.Files.view c.args.files.now) (g.F.Files.view c.read_fates.new.files) c.found-interface.result.now
+    c.in-Ok-read_arrivals.records c.in-Ok-read_departures.departures.items c.in-Ok-read_fates.fates
+all_had g c at =
+    let x = c.in-Ok-read_fates.ensures in
+    went_far (given_names_read c.args.words.now) (g.F.Files.view c.args.files.now) (g.F.Files.view c.read_departures.new.files)
+    (g.F.Files.view c.read_fates.new.files) c.found-interface.result.now c.in-Ok-read_arrivals.records c.in-Ok-read_departures.departures.items
+    c.in-Ok-read_fates.fates at x.read x.whole x.counts
 
-pub returns-in-Err-judge-clause-ends : goal.returns-in-Err-judge-clause-ends
-returns-in-Err-judge-clause-ends g c =
+pub returns-in-Err-judge : goal.returns-in-Err-judge
+returns-in-Err-judge g c =
     let u = g.F.Files.view c.args.files.now in
     let e = g.F.Files.view c.read_fates.new.files in
-    let n = inputs_of c.args.words.now in
-    let first = (goal.at.returns-in-Err-judge-clause-ends g c).In-Some in
-    let x = all g (goal.at.returns-in-Err-judge-clause-ends g c).After-deref (begun g first) (accepted g first) in
+    let n = given_names_read c.args.words.now in
+    let at = goal.at.returns-in-Err-judge g c in
+    let far = all_had g at.In-Ok-read_fates (departures_had g at.In-Ok-read_departures (arrivals_had g at.In-Ok-read_arrivals)) in
+    let J : List ℕ → Type 0 =
+    λ l. AreJudged c.found-interface.result.now c.in-Ok-read_arrivals.records l c.in-Ok-read_fates.fates (λ j. IsUnverified j c.in-Err-judge.why) in
     let P : Failure → Type 0 = λ f. VerifyEnds u e n (Err f) in
     subst P (sym c.refutation.ensures)
-    (fails_at c.configurations_fit.ensures u e n _ x.0.leaves
-    (refuted_fails u e n c.in-Some.found.now c.in-Ok-read_arrivals.records c.deref.result.now c.in-Ok-read_fates.fates c.in-Err-judge.why x.1 c.in-Err-judge.ensures.refuted))
+    (refuted c.configurations_fit.ensures n u e c.found-interface.result.now c.in-Ok-read_arrivals.records c.in-Ok-read_departures.departures.items
+    c.in-Ok-read_fates.fates far c.in-Err-judge.why (subst J c.deref.ensures.value c.in-Err-judge.ensures.refuted))
 
-pub returns-in-Ok-say_verdict-clause-ends : goal.returns-in-Ok-say_verdict-clause-ends
-returns-in-Ok-say_verdict-clause-ends g c =
-    let u = g.F.Files.view c.args.files.now in
-    let e = g.F.Files.view c.read_fates.new.files in
-    let w = g.F.Files.view c.say_verdict.new.files in
-    let n = inputs_of c.args.words.now in
-    let found = c.in-Some.found.now in
-    let answers = c.in-Ok-read_arrivals.records in
-    let first = (goal.at.returns-in-Ok-say_verdict-clause-ends g c).In-Some in
-    let x = all g (goal.at.returns-in-Ok-say_verdict-clause-ends g c).After-deref (begun g first) (accepted g first) in
-    let judged = same_judged found answers c.deref.result.now c.in-Ok-read_fates.fates c.in-Ok-judge.late.items c.deref-2.result.now c.deref-2.ensures.value c.in-Ok-judge.ensures.verified in
-    let comes = says_comes u e w n found answers c.deref.result.now c.in-Ok-read_fates.fates c.deref-2.result.now (Ok c.in-Ok-say_verdict.done)
-    x.0.leaves.keeps x.0.silent x.0.counts x.1 judged c.in-Ok-say_verdict.ensures.said.says in
-    record {
-      comes = comes;
-      told = λ t q. told c.configurations_fit.ensures u w n (Ok c.in-Ok-say_verdict.done) comes t q;
-      leaves = leaves_said u e w n x.0.leaves c.in-Ok-say_verdict.ensures.said.only;
-    }
+pub returns-in_default : goal.returns-in_default
+returns-in_default g c =
+    let at = goal.at.returns-in_default g c in
+    starved c.configurations_fit.ensures (given_names_read c.args.words.now) (g.F.Files.view c.args.files.now) (g.F.Files.view c.read_fates.new.files)
+    c.found-interface.result.now c.in-Ok-read_arrivals.records c.in-Ok-read_departures.departures.items c.in-Ok-read_fates.fates
+    (all_had g at.In-Ok-read_fates (departures_had g at.In-Ok-read_departures (arrivals_had g at.In-Ok-read_arrivals)))
 
-pub returns-clause-ends : goal.returns-clause-ends
-returns-clause-ends g c =
-    let u = g.F.Files.view c.args.files.now in
+pub returns-in-Ok-say_answer : goal.returns-in-Ok-say_answer
+returns-in-Ok-say_answer g c =
     let e = g.F.Files.view c.read_fates.new.files in
-    let w = g.F.Files.view c.say_verdict.new.files in
-    let n = inputs_of c.args.words.now in
-    let found = c.in-Some.found.now in
-    let answers = c.in-Ok-read_arrivals.records in
-    let first = (goal.at.returns-clause-ends g c).In-Some in
-    let x = all g (goal.at.returns-clause-ends g c).After-deref (begun g first) (accepted g first) in
-    let judged = same_judged found answers c.deref.result.now c.in-Ok-read_fates.fates c.in-Ok-judge.late.items c.deref-2.result.now c.deref-2.ensures.value c.in-Ok-judge.ensures.verified in
-    let comes = says_comes u e w n found answers c.deref.result.now c.in-Ok-read_fates.fates c.deref-2.result.now (Err c.in-Err-say_verdict.failure)
-    x.0.leaves.keeps x.0.silent x.0.counts x.1 judged c.in-Err-say_verdict.ensures.said.says in
-    record {
-      comes = comes;
-      told = λ t q. told c.configurations_fit.ensures u w n (Err c.in-Err-say_verdict.failure) comes t q;
-      leaves = leaves_said u e w n x.0.leaves c.in-Err-say_verdict.ensures.said.only;
-    }
+    let w = g.F.Files.view c.say_answer.new.files in
+    let at = goal.at.returns-in-Ok-say_answer g c in
+    let far = all_had g at.In-Ok-read_fates (departures_had g at.In-Ok-read_departures (arrivals_had g at.In-Ok-read_arrivals)) in
+    let J : List ℕ → Type 0 =
+    λ l. AreJudged c.found-interface.result.now c.in-Ok-read_arrivals.records l c.in-Ok-read_fates.fates (λ j. AreVerified j c.in-Ok-judge.late.items) in
+    let S : List ℕ → Type 0 = λ l. Said e w l in
+    let text = c.as_bytes.ensures.value ∙ c.in-Ok-verdict_text.ensures in
+    let K : List Late → Type 0 = λ l. Said e w (verdict_text c.found-interface.result.now l) in
+    said c.configurations_fit.ensures (given_names_read c.args.words.now) (g.F.Files.view c.args.files.now) e c.found-interface.result.now
+    c.in-Ok-read_arrivals.records c.in-Ok-read_departures.departures.items c.in-Ok-read_fates.fates far w c.in-Ok-judge.late.items
+    (subst J c.deref.ensures.value c.in-Ok-judge.ensures.verified) (subst K c.deref-2.ensures.value (subst S text c.in-Ok-say_answer.ensures.said))
+    c.in-Ok-say_answer.ensures.counts
+
+pub returns : goal.returns
+returns g c =
+    let e = g.F.Files.view c.read_fates.new.files in
+    let at = goal.at.returns g c in
+    let far = all_had g at.In-Ok-read_fates (departures_had g at.In-Ok-read_departures (arrivals_had g at.In-Ok-read_arrivals)) in
+    let J : List ℕ → Type 0 =
+    λ l. AreJudged c.found-interface.result.now c.in-Ok-read_arrivals.records l c.in-Ok-read_fates.fates (λ j. AreVerified j c.in-Ok-judge.late.items) in
+    unsaid c.configurations_fit.ensures (given_names_read c.args.words.now) (g.F.Files.view c.args.files.now) e c.found-interface.result.now
+    c.in-Ok-read_arrivals.records c.in-Ok-read_departures.departures.items c.in-Ok-read_fates.fates far (g.F.Files.view c.say_answer.new.files)
+    c.in-Ok-judge.late.items (subst J c.deref.ensures.value c.in-Ok-judge.ensures.verified) c.in-Err-say_answer.failure
+    c.in-Err-say_answer.ensures.refused c.in-Err-say_answer.ensures.why

@@ -1,0 +1,5 @@
+pub mod Alike
+pub mod CountedLaws
+pub mod ReadLemmas
+pub mod SourceLaws
+pub mod SourceReads

@@ -1,0 +1,5 @@
+pub mod EndsLaws
+pub mod FirstLaws
+pub mod FitLemmas
+pub mod HadLaws
+pub mod TruthLaws

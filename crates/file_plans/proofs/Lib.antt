@@ -1,0 +1,5 @@
+pub mod AlongLaws
+pub mod CameLaws
+pub mod EndLaws
+pub mod FewLaws
+pub mod RowLaws

@@ -1,0 +1,12 @@
+pub mod Cited
+pub mod EndLemmas
+pub mod EndedLemmas
+pub mod FailingLaws
+pub mod FrontLaws
+pub mod LateLemmas
+pub mod NewLemmas
+pub mod PassageLemmas
+pub mod SeeingLemmas
+pub mod SetupLemmas
+pub mod StepLemmas
+pub mod ThroughLemmas

@@ -1,0 +1,9 @@
+pub mod Ended
+pub mod Expected
+pub mod Failing
+pub mod Fronts
+pub mod Laws
+pub mod Played
+pub mod Setup
+pub mod Source
+pub mod Steps

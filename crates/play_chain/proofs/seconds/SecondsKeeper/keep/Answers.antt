@@ -1,6 +1,0 @@
-use Rattle.play_chain.proofs.PathLemmas.{on_ok}
-use Rattle.play_chain.proofs.SecondLemmas.{seconds_more}
-use Rattle.play_chain.proofs.seconds.SecondsKeeper.keep.Goals as goal
-
-pub returns-clause-told : goal.returns-clause-told
-returns-clause-told c = on_ok c.add.result _ _ (seconds_more c.args.self.now c.add.new.self c.args.fate) c.add.ensures

@@ -1,0 +1,5 @@
+mod BeginLemmas
+mod HadLemmas
+pub mod OneThing
+mod OpenLemmas
+mod TextLemmas

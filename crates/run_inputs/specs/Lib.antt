@@ -1,0 +1,4 @@
+pub mod Had
+pub mod Meets
+pub mod Reading
+pub mod Says

@@ -1,0 +1,5 @@
+pub mod Faults
+pub mod Message
+pub mod Outcome
+pub mod Reported
+pub mod Truth

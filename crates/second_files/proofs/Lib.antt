@@ -1,3 +1,0 @@
-pub mod BackLaws
-pub mod PartLaws
-pub mod SecondLaws
