@@ -87,7 +87,7 @@ def lines(conf, names):
         for option, value in options.items():
             for sign in " =":
                 first = "" if option == "--config" else f"--config{sign}{conf} "
-                yield f"altqplay {name} {first}{option}{sign}", {"FILE": ["names of files"], "NAME": names, "N": [""]}[value]
+                yield f"altqplay {name} {first}{option}{sign}", {"FILE": ["names of files"], "NAME": names}.get(value, [""])
 
 
 def completion_faults():

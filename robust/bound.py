@@ -129,7 +129,7 @@ def fault_of(options, folder):
     if interface.fit != "fits":
         return f"the curves do not fit: {interface.fit}", []
     name = play(*(os.path.join(folder, NAMES[what]) if what in NAMES else "if0" for what in ("config", "interface", "arrivals")), folder, 42, options.program).fates
-    fates, measured, ratios = sorted(fate_rows(name), key=lambda fate: fate.number), Measured(interface, [read_fates(name)]), []
+    fates, measured, ratios = sorted(fate_rows(name), key=lambda fate: fate.number), Measured(interface, [read_fates(name)], os.path.join(folder, NAMES["config"]), options.program), []
     longest = max((fate.length for fate in fates), default=0)
     for of in interface.classes:
         own, curve_of = [fate for fate in fates if fate.name == of], interface.promised(of)
@@ -140,7 +140,7 @@ def fault_of(options, folder):
             row, burst = measured.row(of, rate), burst_of(own, rate or curve_of.m2)
             limit = limit_of(one, interface.bandwidth, longest, burst)
             if (row.burst, row.bound) != (burst, limit):
-                return f"{of} has burst {burst} and bound {limit}, and by the workbench {row.burst} and {row.bound}", []
+                return f"{of} has burst {burst} and bound {limit}, and by the workbench and the program {row.burst} and {row.bound}", []
             delays = [fate.end - fate.arrival for fate in own if fate.end is not None]
             ratios += [Fraction(max(delays), limit)] if delays else []
             if delays and max(delays) > limit:

@@ -45,6 +45,7 @@ _altqplay() {
         play | shares) options=(--config --interface --arrivals --departures --fates --stats --seed) ;;
         make) options=(--count --config --interface --arrivals --departures --fates --stats --seed) ;;
         check) options=(--config --interface) ;;
+        bound) options=(--config --interface --longest --burst) ;;
         verify) options=(--config --interface --arrivals --departures --fates) ;;
         condition) options=(--config --interface --arrivals --marked) ;;
         chain) options=(--config --interface --arrivals --departures --fates --stats --seed --next --departures2 --fates2 --stats2 --path) ;;
@@ -67,7 +68,7 @@ _altqplay() {
     fi
 
     if ((here == 1)); then
-        found=(play check make shares chain verify condition)
+        found=(play check bound make shares chain verify condition)
     elif [[ -z $option ]]; then
         for part in "${options[@]}"; do
             [[ $given == *" $part "* ]] || found+=("$part")
@@ -76,7 +77,7 @@ _altqplay() {
         while read -r part; do
             [[ -z $name && $part == -* ]] || found+=("$name$part") # a name with - at its front needs the equals sign
         done < <(_altqplay_interfaces "$config")
-    elif [[ $option != --seed && $option != --count && " ${options[*]} " == *" $option "* ]]; then
+    elif [[ $option != --@(seed|count|longest|burst) && " ${options[*]} " == *" $option "* ]]; then
         compopt -o default # nothing is found here, so bash offers the names of files
     fi
     for part in "${found[@]}"; do

@@ -28,7 +28,7 @@ def bound(conf: Conf, packets: Packets, rates: Sequence[int] = (), *, seed: int 
     >>> bound(conf, pandas.DataFrame({"time_ns": [0, 0], "length": [1000, 500]}))[["rate", "burst", "bound", "greatest"]].values.tolist()
     [[4000000, 1500, 4000000, 1500000]]
     """
-    found = measured(play(conf, packets, seed, interface=interface, program=program))
+    found = measured(play(conf, packets, seed, interface=interface, program=program), program)
     rows = found.rows(holders(found.interface), rates)
     return pandas.DataFrame({
         "class": [row.of for row in rows], "packets": [row.packets for row in rows], "rate": tables.numbers([row.rate for row in rows]),
@@ -36,9 +36,9 @@ def bound(conf: Conf, packets: Packets, rates: Sequence[int] = (), *, seed: int 
         "greatest": tables.numbers([row.greatest for row in rows]), "reason": [row.reason for row in rows]})
 
 
-def measured(made: Play) -> Measured:
+def measured(made: Play, program: Optional[str] = None) -> Measured:
     """The classes of a play as it is offered them."""
-    return Measured(made.interface, [made.columns])
+    return Measured(made.interface, [made.columns], made.config, program)
 
 
 def least_curve(conf: Conf, packets: Packets, of: str, target: int, rate: int = 1, *, seed: int = 42, interface: Optional[str] = None,
@@ -48,7 +48,7 @@ def least_curve(conf: Conf, packets: Packets, of: str, target: int, rate: int = 
     made = play(conf, packets, seed, interface=interface, program=program)
     if of not in holders(made.interface) or made.interface.discipline == "cbq":
         raise Refused(f"interface {made.interface.name} has no class {of} that may have a real-time curve")
-    least = measured(made).least(of, target, rate)
+    least = measured(made, program).least(of, target, rate)
     if least is not None and (fit := confirmed(text_of(conf), made.config, made.interface, of, least.curve, program)) != "fits":
         raise Refused(f"check says {fit} of {least.curve}")
     return None if least is None else least.curve

@@ -59,9 +59,9 @@ def test_commands(line, why):
 
 def test_a_clause_is_found_where_it_stands():
     faults = []
-    assert PROVED.place("play_cli", "run.plays", faults) == "play_cli/src/program.rt"
+    assert PROVED.place("play_cli", "run.ends", faults) == "play_cli/src/program.rt"
     assert PROVED.place("altq_model", "KeepsLaws.ordered", faults) == "altq_model/specs/Laws.antt"
-    assert PROVED.place("play_command", "PlayFails", faults) == "play_command/specs/Ending.antt"
+    assert PROVED.place("interface_play", "PlayFails", faults) == "interface_play/specs/Failing.antt"
     assert not faults
     for crate, name in [("play_cli", "run.sings"), ("altq_model", "KeepsLaws.sorted"), ("altq_model", "KeepsLawz"), ("hfsc_laws", "run.plays")]:
         assert PROVED.place(crate, name, faults) == "?"

@@ -1,3 +1,3 @@
 """The workbench of altqplay: captures, plays and reports around the program. Nothing of it is proved."""
 
-__version__ = "0.2"
+__version__ = "0.3"

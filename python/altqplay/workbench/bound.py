@@ -40,7 +40,7 @@ from .conf import Curve, Interface, interface_named, read_conf
 from .conforming import least_burst, mean_rate, neediest
 from .delay_bound import bound, why_none
 from .faults import Refused
-from .play import add_program, play
+from .play import add_program, bounds, play
 from .rows import read_fates
 from .rules.units import time_of
 from .sweep import changed
@@ -52,6 +52,7 @@ NAME = "bound"
 HELP = "how long a packet of each class takes at most, whatever the others send"
 DRAWN = 200  # rates of the picture
 MOST_PACKETS = 500  # of a picture
+MOST_BURST = 2**30  # bytes, of which the program says a bound
 
 
 class Offered(NamedTuple):
@@ -127,8 +128,8 @@ def holders(interface: Interface) -> list[str]:
 class Measured:
     """The classes of an interface as some plays are offered them, and the longest packet of the interface in bytes, 0 without any."""
 
-    def __init__(self, interface: Interface, plays: Sequence[Fates]) -> None:
-        self.interface = interface
+    def __init__(self, interface: Interface, plays: Sequence[Fates], config: str, program: Optional[str] = None) -> None:
+        self.interface, self.config, self.program = interface, config, program
         self.longest = max((int(fates.length.max()) for fates in plays if len(fates)), default=0)
         self.offers = {name: [offered(fates, name) for fates in plays] for name in holders(interface)}
 
@@ -151,8 +152,15 @@ class Measured:
         reason = why_none(self.interface, name, own) or ("" if packets else "no packet of it came")
         burst = self.burst(name, own) if packets and own else None
         greatest = max((one.greatest for one in self.offers[name] if one.greatest is not None), default=None)
-        limit = bound(curve, self.interface.bandwidth, self.longest, burst) if curve and burst and not reason else None
+        limit = self.limit(name, burst) if curve and burst and not reason else None
         return Row(name, packets, own, burst, limit, greatest, reason)
+
+    def limit(self, name: str, burst: int) -> Optional[int]:
+        """What the program says of a class with this burst; of a burst that it does not take, the same formula."""
+        curve = self.interface.promised(name)
+        if curve is not None and burst > MOST_BURST:
+            return bound(curve, self.interface.bandwidth, self.longest, burst)
+        return bounds(self.config, self.interface.name, self.longest, burst, self.program)[name]
 
     def rows(self, names: Sequence[str], rates: Sequence[int]) -> list[Row]:
         """Each of some classes at its second slope, and where it has a real-time curve at each of some rates."""
@@ -184,7 +192,7 @@ def measured(config: str, interface: Interface, captures: Sequence[str], seed: i
             os.mkdir(room)
             played = operator_inputs.playable([capture], room, operator_inputs.Options())[0]
             plays.append(read_fates(play(config, interface.name, played, room, seed, program).fates))
-    return Measured(interface, plays)
+    return Measured(interface, plays, config, program)
 
 
 def confirmed(text: str, config: str, interface: Interface, name: str, curve: Curve, program: Optional[str]) -> str:

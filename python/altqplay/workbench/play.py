@@ -72,6 +72,12 @@ def check(config, interface, named=None):
     return answer(named, ["check", "--config", config, "--interface", interface]).splitlines()
 
 
+def bounds(config, interface, longest, burst, named=None):
+    """What `altqplay bound` says of each leaf: the most nanoseconds from a packet's arrival to its end, or None."""
+    said = answer(named, ["bound", "--config", config, "--interface", interface, "--longest", str(longest), "--burst", str(burst)])
+    return {words[0]: int(words[-1]) if words[-1] != "none" else None for words in map(str.split, said.splitlines())}
+
+
 def play(config, interface, arrivals, folder, seed=42, named=None):
     """Plays a capture that the program reads; answers its files, departures.pcap, fates.csv and stats.csv of the folder, which come
     there when all of them are whole."""
