@@ -28,8 +28,8 @@ def bound(conf: Conf, packets: Packets, rates: Sequence[int] = (), *, seed: int 
     >>> bound(conf, pandas.DataFrame({"time_ns": [0, 0], "length": [1000, 500]}))[["rate", "burst", "bound", "greatest"]].values.tolist()
     [[4000000, 1500, 4000000, 1500000]]
     """
-    found = measured(play(conf, packets, seed, interface=interface, program=program), program)
-    rows = found.rows(holders(found.interface), rates)
+    made = play(conf, packets, seed, interface=interface, program=program)
+    rows = measured(made, program).rows(holders(made.interface), rates)
     return pandas.DataFrame({
         "class": [row.of for row in rows], "packets": [row.packets for row in rows], "rate": tables.numbers([row.rate for row in rows]),
         "burst": tables.numbers([row.burst for row in rows]), "bound": tables.numbers([row.bound for row in rows]),
@@ -37,7 +37,7 @@ def bound(conf: Conf, packets: Packets, rates: Sequence[int] = (), *, seed: int 
 
 
 def measured(made: Play, program: Optional[str] = None) -> Measured:
-    """The classes of a play as it is offered them."""
+    """The classes of a play as it is offered them; to be asked while the play is there, as the program reads its configuration."""
     return Measured(made.interface, [made.columns], made.config, program)
 
 

@@ -121,7 +121,7 @@ class Reader:
             self.notes.refuse(kind or words[0], f"{kind.text if kind else 'this'} has no equivalent: only classes of hfsc are read")
         if not is_change(words) and any(word.text == "root" for word in words):
             return
-        name = behind(words, "classid") if is_change(words) else words[2]
+        name = behind(words, "classid") if is_change(words) else next(iter(words[2:]), None)
         parent = behind(words, "parent")
         if name is None or parent is None:
             self.notes.refuse(words[0], "it names no classid, or no parent")
