@@ -23,7 +23,7 @@ CONFIGURATION = "--config conf --interface if0"
 GIVEN = "--arrivals in --departures out --fates fates"
 OTHERS = GIVEN + " --stats stats --seed 42"
 NEXT = "--next if1 --departures2 out2 --fates2 fates2 --stats2 stats2 --path path"
-USUAL = {"check": CONFIGURATION, "verify": f"{CONFIGURATION} {GIVEN}", "chain": f"{CONFIGURATION} {OTHERS} {NEXT}",
+USUAL = {"check": CONFIGURATION, "bound": CONFIGURATION, "verify": f"{CONFIGURATION} {GIVEN}", "chain": f"{CONFIGURATION} {OTHERS} {NEXT}",
          "condition": f"{CONFIGURATION} --arrivals in --marked marked"}
 NAMES = ("conf", "in", "out", "fates", "stats", "out2", "fates2", "stats2", "path", "marked")
 EDITS = ("bytes", "cut", "put")

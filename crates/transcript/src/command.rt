@@ -9,7 +9,7 @@ use std::alloc::Global;
 // The usual options of a command.
 fn usual(command: &str) -> &'static str {
     match command {
-        "check" => "--config conf --interface if0",
+        "check" | "bound" => "--config conf --interface if0",
         "condition" => "--config conf --interface if0 --arrivals in --marked marked",
         "verify" => { "--config conf --interface if0 --arrivals in --departures out --fates fates" }
         "chain" => {
