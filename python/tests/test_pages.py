@@ -27,7 +27,7 @@ def test_names_that_are_gone(line, why):
     assert list(CHECK.wrong_names(line)) == [why]
 
 
-@pytest.mark.parametrize("line", ["`plays` of `run`", "`packets_are_timely` of `hfsc_laws`", "`never_idles` of `KeepsHfsc`", "`Conf::build`", "`rt 8M 10 0`"])
+@pytest.mark.parametrize("line", ["`ends` of `run`", "`packets_are_timely` of `hfsc_laws`", "`never_idles` of `KeepsHfsc`", "`Conf::build`", "`rt 8M 10 0`"])
 def test_names_that_are_there(line):
     assert not list(CHECK.wrong_names(line))
 
