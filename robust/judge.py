@@ -248,7 +248,7 @@ def wrong(words, before, after, run, is_text=True):
     """What is wrong with a run, or None. `before` and `after` are the files of its folder, by their names."""
     command = words[0] if words else b""
     if not is_help(run):
-        return "what stands on standard error is not one to three printable lines, or the run is done"
+        return "what stands on standard error is not one to three printable lines or the eight of the usage, or the run is done"
     if not is_text:
         return wrong_untouched(before, after) if (run.status, run.said) == (2, b"") else "a word that is no UTF-8 was not refused, or something was said"
     if not is_stated(run.status, run.said, command):

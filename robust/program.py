@@ -67,8 +67,8 @@ def is_stated(status, said, command):
 
 def is_help(run):
     """Whether this may stand on standard error, where it is no terminal: nothing where the run is done, else one to three lines
-    of bytes 32 to 126, or seven that say how the program is called; none where standard error is closed or a signal ended the run."""
-    return run.complaint == b"" if run.status == 0 else re.fullmatch(rb"(?:[ -~]+\n){0,7}", run.complaint) is not None
+    of bytes 32 to 126, or eight that say how the program is called; none where standard error is closed or a signal ended the run."""
+    return run.complaint == b"" if run.status == 0 else re.fullmatch(rb"(?:[ -~]+\n){0,8}", run.complaint) is not None
 
 
 def kind_of(run):
