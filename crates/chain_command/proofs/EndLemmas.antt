@@ -31,6 +31,7 @@ use Rattle.command_form.proofs.EndsLaws.{done_ends, memory_ends, own_ends, unrea
 use Rattle.interface_play.proofs.FailingLaws.{fails_by}
 use Rattle.interface_play.specs.Expected.{play_outcome}
 use Rattle.interface_play.specs.Failing.{play_failure}
+use Rattle.interface_play.proofs.FrontLaws.{played_fronts}
 use Rattle.interface_play.specs.Fronts.{Fronts}
 use Rattle.interface_play.specs.Played.{WasPlayed}
 use Rattle.interface_play.specs.Source.{Source, outputs_at}
@@ -40,11 +41,11 @@ use Rattle.chain_command.specs.Chained.{sent_by}
 use Rattle.chain_command.specs.Chaining.{ChainDone, ChainEnds, ChainExpected, ChainLeaves, ChainOwn, OfFirst, OfSecond, TwoExpect}
 use Rattle.chain_command.specs.Names.{IsGivenTwo, chain_command, seconds_of, sent_source}
 use Rattle.chain_command.specs.Writing.{failure_by}
-use Rattle.chain_command.proofs.EndedLemmas.{SameOutputs, fronts_on, played_on}
+use Rattle.chain_command.proofs.EndedLemmas.{SameOutputs, played_on}
 use Rattle.chain_command.proofs.FirstLemmas.{Begins, FirstEnded, OfFirstHad, Run, given_at, input_files, is_two, of_two, source_first}
 use Rattle.chain_command.proofs.MustLemmas.{first_must, quiet_before, second_must}
 use Rattle.chain_command.proofs.NameLemmas.{chain_reads, departures_second, fates_second, inputs_at, path_at, sent_at, stats_second, not_part, six}
-use Rattle.chain_command.proofs.SecondLemmas.{OfSecondHad, Passed, SecondEnded, made_outputs, played_first, told_then}
+use Rattle.chain_command.proofs.SecondLemmas.{OfSecondHad, Passed, SecondEnded, played_first, told_then}
 use Rattle.chain_command.proofs.StepLemmas.{StandAt, along_more, files_at, first_stand, inputs_first, ready, second_stand, unchanged_stand, within_five, within_nine}
 
 -- an end as want of memory, as one of the chain's own failures, or done
@@ -152,7 +153,8 @@ module _ (s : Run) (b : Begins s) (kept : List KeptFate → Type 0) where
 
     leaves_w : ChainLeaves s.before w s.links s.seed
     leaves_w = record {
-      first = leave_first s b w (λ t. fronts_on s.before v w (sole_of s.links.first) (made_outputs s b kept totals v h) same_w s.seed (source_first s b t) (h.fronts t));
+      first = leave_first s b w (λ t. played_fronts s.before w (sole_of s.links.first) s.seed (source_first s b t)
+          (played_on v w (sole_of s.links.first) s.seed (source_first s b t) same_w (h.done t).played));
       second = inl (within_five s b w stand_w along_w);
       path = λ t. inl (no_path_five w (within_five s b w stand_w along_w));
     }
@@ -217,7 +219,8 @@ module _ (s : Run) (b : Begins s) (kept : List KeptFate → Type 0) where
     pub first_fronts : (z : View) → (IsTrue s.before.tells → SameOutputs v z (sole_of s.links.first)) → (t : IsTrue s.before.tells)
         → Fronts s.before z (sole_of s.links.first) s.seed (source_first s b t)
     first_fronts z same t =
-        fronts_on s.before v z (sole_of s.links.first) (made_outputs s b kept totals v p.first) (same t) s.seed (source_first s b t) (p.first.fronts t)
+        played_fronts s.before z (sole_of s.links.first) s.seed (source_first s b t)
+        (played_on v z (sole_of s.links.first) s.seed (source_first s b t) (same t) (played_first s b kept totals v w file p t))
 
     nine_along : CameAlong ((inputs_at s.links ++ outputs_at (sole_of s.links.first) ++ sent_at s.links) ++ outputs_at (seconds_of s.links)) s.before c
         → CameAlong (chain_plan s.links) s.before c

@@ -1,28 +1,23 @@
 -- How a play of a chain ended, told of its link.
-use Rattle.std.proofs.Common.{◌≡◌, ◌≢◌, ◌∙◌, ◌⊎◌, ◌++◌, ℕ, List, [], None, Some, Ok, Err, subst, inl, inr}
+use Rattle.std.proofs.Common.{◌≡◌, ◌≢◌, ◌∙◌, ◌++◌, ℕ, List, None, Some, Ok, Err, subst}
 use Rattle.std.specs.Prelude.{IfErr, IfOk, OnOk}
 use Rattle.std.specs.declared.result.Result.{Result}
-use Rattle.file_plans.specs.Came.{Came, CameAlong, IsOf}
-use Rattle.file_plans.specs.End.{Untouched}
-use Rattle.file_plans.specs.Plan.{HasPart, IsOther, Place, number_of}
+use Rattle.file_plans.specs.Came.{Came, CameAlong}
+use Rattle.file_plans.specs.Plan.{HasPart, IsOther, Place}
 use Rattle.interface_play.proofs.FailingLaws.{fails_by}
 use Rattle.interface_play.specs.declared.play.Play.{Play}
 use Rattle.arrivals_source.specs.Counted.{IsNoLonger}
 use Rattle.interface_play.specs.Ended.{HasEnded, OnlyPlays}
 use Rattle.interface_play.specs.Expected.{CameAsExpected}
-use Rattle.interface_play.specs.Failing.{HasWholeTexts, PlayFails}
-use Rattle.interface_play.specs.Fronts.{Fronts, HasStatsFront, IsFrontAt}
+use Rattle.interface_play.specs.Failing.{PlayFails}
+use Rattle.interface_play.specs.Fronts.{Fronts}
 use Rattle.interface_play.specs.Played.{IsDone, WasPlayed}
 use Rattle.interface_play.specs.Setup.{Untold}
 use Rattle.interface_play.specs.Source.{OfSource, Places, Source, outputs_at, places_in}
 use Rattle.play_base.specs.View.{View, Keeps, SameCounts}
 use Rattle.play_core.specs.declared.totals.Totals.{Totals}
-use Rattle.play_loop.specs.declared.fault.Limit.TheVariants as limit
-use Rattle.play_loop.specs.declared.fault.Output.TheVariants as output
 use Rattle.play_loop.specs.declared.fault.PlayFault.{PlayFault}
-use Rattle.play_loop.specs.declared.fault.PlayFault.TheVariants as fault
 use Rattle.play_loop.specs.declared.kept.KeptFate.{KeptFate}
-use Rattle.play_loop.specs.Setup.{Setup}
 use Rattle.run_outcomes.specs.Faults.{IsQuiet}
 
 -- a play by this seed at these places of what this file has left: `before` is when the files of the places before it began to come, `old`
@@ -98,35 +93,3 @@ played_on v w p seed s k h = record {
   reads = h.reads;
   promises = h.promises;
 }
-
--- the outputs were created
-pub record HasOutputs (u v : View) (p : Places) : Type 0 where
-  pub departures : (f : ℕ) × IsOf u v p.departures f
-  pub fates : (f : ℕ) × IsOf u v p.fates f
-  pub stats : (f : ℕ) × IsOf u v p.stats f
-
-module _ (u v w : View) (p : Places) (h : HasOutputs u v p) (k : SameOutputs v w p) where
-  front_on : (e : Place) (text : List ℕ) → (f : ℕ) × IsOf u v e f → w.bytes e.name ≡ v.bytes e.name → IsFrontAt u v e text → IsFrontAt u w e text
-  front_on e text there same (inl x) = absurd (x.0 there.0 there.1.fresh there.1.part)
-  front_on e text there same (inr x) = inr (x.0, x.1, same ∙ x.2, x.3)
-
-  stats_on : (x : Setup) (records : _) → HasStatsFront u v p x records → HasStatsFront u w p x records
-  stats_on x records (inl y) = inl (front_on p.stats [] h.stats k.stats y)
-  stats_on x records (inr y) = inr (
-    y.0,
-    y.1,
-    record { departures = k.departures ∙ y.2.departures; fates = k.fates ∙ y.2.fates },
-    front_on p.stats _ h.stats k.stats y.3,
-  )
-
-  -- and what they hold fronts of stays so
-  pub fronts_on : (seed : ℕ) (s : Source) → Fronts u v p seed s → Fronts u w p seed s
-  fronts_on seed s x = λ records last reads is_last.
-      let y = x records last reads is_last in
-      record {
-        history = y.history;
-        begun = y.begun;
-        departures = front_on p.departures _ h.departures k.departures y.departures;
-        fates = front_on p.fates _ h.fates k.fates y.fates;
-        stats = stats_on _ records y.stats;
-      }

@@ -13,6 +13,7 @@ use Rattle.file_plans.specs.declared.part.Part.TheVariants as part
 use Rattle.file_plans.specs.End.{Untouched}
 use Rattle.file_plans.proofs.EndLaws.{came_then}
 use Rattle.interface_marks.specs.Conditioners.{conditioning_of}
+use Rattle.interface_play.proofs.FrontLaws.{played_fronts}
 use Rattle.interface_play.specs.Fronts.{Fronts, IsFrontAt}
 use Rattle.interface_play.specs.Played.{IsDone, WasPlayed}
 use Rattle.interface_play.specs.Setup.{IsConfigured, Untold, setup_of}
@@ -40,13 +41,13 @@ use Rattle.chain_command.specs.Chained.{ArePlayed, HasChained, NoneRaised, Start
 use Rattle.chain_command.specs.Chaining.{ChainEnds, ChainLeaves, HasPathFront}
 use Rattle.chain_command.specs.Names.{IsGivenTwo, seconds_of, sent_source}
 use Rattle.chain_command.specs.Writing.{AddsFile, failure_by}
-use Rattle.chain_command.proofs.EndedLemmas.{SameOutputs, fronts_on, played_on, same_outputs}
+use Rattle.chain_command.proofs.EndedLemmas.{SameOutputs, played_on, same_outputs}
 use Rattle.chain_command.proofs.EndLemmas.{ends_done, ends_memory, ends_own, first_fronts, leave_first, must_c, no_path_nine, of_second, said_c, same_c}
 use Rattle.chain_command.proofs.FirstLemmas.{Begins, Run, given_at, is_two, source_first}
 use Rattle.chain_command.proofs.LawLemmas.{Rising, at_stamp, ends_are, marked_stamps, none_raised, rise_so, stamps, starts_after}
 use Rattle.chain_command.proofs.MustLemmas.{quiet_before}
 use Rattle.chain_command.proofs.NameLemmas.{departures_path, fates_path, path_at, second_departures_path, second_fates_path, second_stats_path, six, stats_path}
-use Rattle.chain_command.proofs.SecondLemmas.{Passed, SecondEnded, made_second, source_second, told_then}
+use Rattle.chain_command.proofs.SecondLemmas.{Passed, SecondEnded, source_second, told_then}
 use Rattle.chain_command.proofs.StandLemmas.{untouched_then}
 use Rattle.chain_command.proofs.StepLemmas.{StandAt, path_stand, second_stand, within_nine}
 
@@ -146,8 +147,7 @@ module _ (s : Run) (b : Begins s) (kept held : List KeptFate → Type 0) (totals
   leaves = record {
     first = leave_first s b e (first_fronts s b kept totals v w file p held c e same_first);
     second = inr (of_second s b kept totals v w file p held c e same_first (Fronts s.before e (seconds_of s.links) s.seed)
-        (λ t. fronts_on s.before c e (seconds_of s.links) (made_second s b kept totals v w file p held c more x.second) (same_second t) s.seed
-        (source_second s b kept totals v w file p t) (x.second.fronts t)));
+        (λ t. played_fronts s.before e (seconds_of s.links) s.seed (source_second s b kept totals v w file p t) (both t).second));
     path = front;
   }
 

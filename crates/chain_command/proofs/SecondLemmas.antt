@@ -1,11 +1,10 @@
 -- The second play of a chain, of what the first sent.
 use Rattle.std.proofs.Common.{◌≡◌, ◌∙◌, ◌++◌, ℕ, Bool, true, false, cond, Option, List, [], ◌∷◌, Some, Ok, sym, refl, subst, inl, inr}
-use Rattle.std.specs.Prelude.{◌+◌, IsTrue, get_or, slice_get}
+use Rattle.std.specs.Prelude.{IsTrue}
 use Rattle.std.specs.declared.result.Result.{Result}
-use Rattle.file_plans.specs.Came.{AreOf, Came, IsAmong}
-use Rattle.file_plans.specs.Plan.{HasPart, IsOther, Place, number_of}
+use Rattle.file_plans.specs.Came.{Came, IsAmong}
+use Rattle.file_plans.specs.Plan.{HasPart, IsOther, number_of}
 use Rattle.file_plans.proofs.CameLaws.{came_more}
-use Rattle.file_plans.proofs.EndLaws.{of_at}
 use Rattle.interface_play.specs.declared.play.Play.{Play}
 use Rattle.interface_play.specs.Ended.{HasEnded, IsBehind, OnlyPlays}
 use Rattle.interface_play.specs.Played.{WasPlayed}
@@ -20,7 +19,7 @@ use Rattle.play_loop.specs.declared.fault.PlayFault.{PlayFault}
 use Rattle.play_loop.specs.declared.kept.KeptFate.{KeptFate}
 use Rattle.chain_command.specs.Chained.{sent_by}
 use Rattle.chain_command.specs.Names.{seconds_of, sent_source}
-use Rattle.chain_command.proofs.EndedLemmas.{Ended, HasOutputs, ended_at}
+use Rattle.chain_command.proofs.EndedLemmas.{Ended, ended_at}
 use Rattle.chain_command.proofs.FirstLemmas.{Begins, FirstEnded, Run, input_files, source_first}
 use Rattle.chain_command.proofs.NameLemmas.{behind_departures, behind_fates, behind_stats, inputs_at, not_part, sent_at, six}
 
@@ -31,21 +30,6 @@ pub record Passed (s : Run) (b : Begins s) (kept : List KeptFate → Type 0) (to
   pub left : IsTrue v.tells → w.left file ≡ v.bytes s.links.first.departures
   pub said : w.said ≡ v.said
   pub counts : SameCounts v w
-
--- the outputs of a play came where they stand in the plan from a place on
-outputs_came : (u v : View) (es : List Place) (fs : List ℕ) (w : Places) (i : ℕ) → AreOf u v es fs
-    → (slice_get es i ≡ Some w.departures) × (slice_get es (i + 1) ≡ Some w.fates) × (slice_get es (i + 2) ≡ Some w.stats) → HasOutputs u v w
-outputs_came u v es fs w i x at = record {
-  departures = (get_or fs i 0, (of_at u v es fs i w.departures x at.0).0);
-  fates = (get_or fs (i + 1) 0, (of_at u v es fs (i + 1) w.fates x at.1).0);
-  stats = (get_or fs (i + 2) 0, (of_at u v es fs (i + 2) w.stats x at.2).0);
-}
-
-pub made_outputs : (s : Run) (b : Begins s) (kept : List KeptFate → Type 0) (totals : Totals) (v : View) → FirstEnded s b kept v (Ok totals)
-    → HasOutputs s.before v (sole_of s.links.first)
-made_outputs s b kept totals v h =
-    outputs_came s.before v (inputs_at s.links ++ outputs_at (sole_of s.links.first)) (input_files s b ++ h.came.0) (sole_of s.links.first) 2 h.came.1.are
-    (refl, refl, refl)
 
 module _ (s : Run) (b : Begins s) (kept : List KeptFate → Type 0) (totals : Totals) (v w : View) (file : ℕ) (p : Passed s b kept totals v w file) where
   pub told_then : IsTrue s.before.tells → IsTrue v.tells
@@ -124,8 +108,3 @@ module _ (s : Run) (b : Begins s) (kept : List KeptFate → Type 0) (totals : To
   second_ended q held c y f h o =
       ended_at OfSecondHad held s.before w c q (seconds_of s.links) s.seed file (six s.links) six_files y
       (λ P of t. of (p.opened.keeps.tells ∙ told_then t) (source_second t) (second_is q f t)) f.places f.seed f.reopened h o
-
-  -- its outputs came
-  pub made_second : (held : List KeptFate → Type 0) (c : View) (more : Totals) → SecondEnded held c (Ok more) → HasOutputs s.before c (seconds_of s.links)
-  made_second held c more h =
-      outputs_came s.before c (six s.links ++ outputs_at (seconds_of s.links)) (six_files ++ h.came.0) (seconds_of s.links) 6 h.came.1.are (refl, refl, refl)

@@ -1,6 +1,6 @@
 -- How a play ended.
-use Rattle.std.proofs.Common.{◌≡◌, ◌≢◌, ◌≤◌, ◌++◌, ◌∙◌, ◌⊎◌, ℕ, List, [], ◌∷◌, length, Ok, Err, None, Some, ap, sym, refl, subst, inl, inr, arith}
-use Rattle.std.specs.Prelude.{Bool, IfOk, IsTrue, OnOk, false, true}
+use Rattle.std.proofs.Common.{◌≡◌, ◌≢◌, ◌≤◌, ◌+◌, ◌++◌, ◌∙◌, ◌⊎◌, ℕ, List, [], ◌∷◌, length, length-append, Ok, Err, None, Some, ap, sym, refl, subst, inl, inr, arith}
+use Rattle.std.specs.Prelude.{Bool, IfOk, IsTrue, OnOk, Option, false, true}
 use Rattle.std.specs.declared.result.Result.{Result}
 use Rattle.altq_model.specs.History.{LabelledEvent}
 use Rattle.arrivals_source.specs.Chosen.{first_of, is_streamed}
@@ -11,9 +11,10 @@ use Rattle.file_plans.specs.Came.{AreEmpty, Came, CameAlong, IsAmong, IsOf}
 use Rattle.file_plans.specs.End.{Untouched}
 use Rattle.file_plans.specs.Plan.{HasPart, IsOther, Place, number_of}
 use Rattle.file_plans.proofs.AlongLaws.{empty_holds, names_apart, other_at}
-use Rattle.file_plans.proofs.CameLaws.{came_more, came_none, came_works, none_some, other_first, other_later, other_second, other_where_told, same_part, there_or_not, written_all}
+use Rattle.file_plans.proofs.CameLaws.{came_more, came_none, came_works, none_some, of_fresh, other_first, other_later, other_second, other_where_told, same_part, there_or_not, written_all}
 use Rattle.file_plans.proofs.EndLaws.{came_all, came_some, came_then}
 use Rattle.frame_classes.specs.Frames.{Classes}
+use Rattle.pcapng_files.specs.Fronts.{with_front}
 use Rattle.play_base.specs.View.{View, SameCounts}
 use Rattle.play_base.proofs.ViewLaws.{is_some_of, later_trans, rose_later, same_trans}
 use Rattle.play_core.specs.declared.totals.Totals.{Totals}
@@ -24,22 +25,24 @@ use Rattle.play_loop.specs.declared.fault.PlayFault.TheVariants as play
 use Rattle.play_loop.specs.declared.kept.KeptFate.{KeptFate}
 use Rattle.play_loop.specs.Kept.{IsNoOutput}
 use Rattle.play_loop.specs.Played.{AreReady}
+use Rattle.play_loop.specs.Setup.{Setup}
 use Rattle.play_loop.specs.Told.{HasDecided}
 use Rattle.run_outcomes.specs.Faults.{IsQuiet}
 use Rattle.interface_play.specs.declared.play.Play.{Play}
 use Rattle.interface_play.specs.Ended.{HasEnded, IsBehind, OnlyPlays}
 use Rattle.interface_play.specs.Expected.{CameAsExpected}
 use Rattle.interface_play.specs.Failing.{PlayFails}
-use Rattle.interface_play.specs.Fronts.{Fronts, IsFrontAt}
+use Rattle.interface_play.specs.Fronts.{Fronts, IsFrontAt, TookFirst}
 use Rattle.interface_play.specs.Laws.{HaveLaws}
 use Rattle.interface_play.specs.Setup.{IsConfigured, Untold}
-use Rattle.interface_play.specs.Source.{AreSeparate, OfSource, Places, outputs_at, places_in}
-use Rattle.interface_play.specs.Steps.{AreBare, IsBareAt, IsUncreated, memory_fault, told_as}
+use Rattle.interface_play.specs.Source.{AreSeparate, IsSource, OfSource, Places, Source, outputs_at, places_in}
+use Rattle.interface_play.specs.Steps.{AreBare, CameThrough, IsBareAt, IsUncreated, memory_fault, told_as}
 use Rattle.interface_play.proofs.EndLemmas.{done_as_expected, fails_as_expected}
 use Rattle.interface_play.proofs.FailingLaws.{fails_by}
+use Rattle.interface_play.proofs.FrontLaws.{played_fronts}
 use Rattle.interface_play.proofs.NewLemmas.{has_first, part_of, untouched_by, untouched_then}
-use Rattle.interface_play.proofs.SeeingLemmas.{CameIn, Run, setup_in}
-use Rattle.interface_play.proofs.StepLemmas.{Steps, done_of, fails_of, fronts_of, fronts_whole, opened_in}
+use Rattle.interface_play.proofs.SeeingLemmas.{CameIn, Run}
+use Rattle.interface_play.proofs.StepLemmas.{Steps, done_of, fails_of, fronts_of, opened_in, rest_of}
 
 -- a failure is as it must be
 expected : (before old new : View) (p : Play) (f : PlayFault) → HaveLaws → IsConfigured p.interface.now
@@ -76,6 +79,38 @@ front_bare before old new places files e text came none other t part bare = by (
     )
     by (inr h) = inr ([], text, h, refl)
 
+-- a play may begin: its arrivals are there, and of a classic capture at most four bytes were taken
+pub record Starts (old : View) (p : Play) : Type 0 where
+  pub separate : AreSeparate (places_in p)
+  pub there : old.part p.file ≡ Some (number_of (places_in p).arrivals)
+  pub named : IsTrue old.tells → old.name p.file ≡ p.arrivals.name.now
+  pub few : p.given.now.rest ≡ true → length p.given.now.front.items ≤ 4
+
+-- the arrivals have another name than the outputs
+arrivals_other : (old : View) (p : Play) → Starts old p → IsTrue old.tells → IsOther old (outputs_at (places_in p)) (old.name p.file)
+arrivals_other old p s t =
+    let w = places_in p in
+    let a = s.separate in
+    subst (λ (m : List ℕ). IsOther old (outputs_at w) m) (sym (s.named t))
+    (other_where_told old p.arrivals.name.now (outputs_at w) t
+    (written_all w.departures.way _ a.arrivals_departures, (written_all w.fates.way _ a.arrivals_fates, (written_all w.stats.way _ a.arrivals_stats, tt))))
+
+-- so they keep what they have left while outputs come to be
+module _ (old new : View) (p : Play) (s : Starts old p) (along : CameAlong (outputs_at (places_in p)) old new) where
+  within : (n : List ℕ) → IsOther old (outputs_at (places_in p)) n → IsOther old along.front n
+  within n h = other_first old n along.front along.rest (subst (λ (es : List Place). IsOther old es n) along.split h)
+
+  pub still_left : IsTrue old.tells → new.left p.file ≡ old.left p.file
+  still_left t = along.came.keeps.left p.file (number_of (places_in p).arrivals) s.there (within (old.name p.file) (arrivals_other old p s t))
+
+-- the bytes behind those that stand in front
+own_left : (rest : Bool) (front capture : List ℕ) (left : Option (List ℕ)) → rest ≡ true → with_front true rest front left ≡ Some capture
+    → (own : List ℕ) × (left ≡ Some own) × (length capture ≡ length front + length own)
+own_left true front capture None r e = absurd (cc)
+own_left true front capture (Some own) r e =
+    let same : front ++ own ≡ capture = cc in (own, refl, ap (λ (l : List ℕ). length l) (sym same) ∙ length-append front own)
+own_left false front capture left r e = absurd (cc)
+
 -- nothing was created
 pub none_bare : (w : Places) (v : View) → AreBare w v v
 none_bare w v = record { departures = λ t. inl (none, refl); fates = λ t. inl (none, refl); stats = λ t. inl (none, refl) }
@@ -84,7 +119,7 @@ none_bare w v = record { departures = λ t. inl (none, refl); fates = λ t. inl 
     none {part} f fresh e = none_some part (sym fresh ∙ e)
 
 -- its outputs did not all come to be, or there was no memory behind them
-module _ (before old new : View) (places : List Place) (files : List ℕ) (p : Play) (b : IsBehind before old places files p)
+module _ (before old new : View) (places : List Place) (files : List ℕ) (p : Play) (b : IsBehind before old places files p) (starts : Starts old p)
     (along : CameAlong (outputs_at (places_in p)) old new) (bare : AreBare (places_in p) old new) where
   abbrev At : Places
   At = places_in p
@@ -97,13 +132,29 @@ module _ (before old new : View) (places : List Place) (files : List ℕ) (p : P
   front_of e text of other t x =
       front_bare before old new places files e text b.came (b.parts e of) (other (sym b.came.keeps.tells ∙ t)) t kept_part x
 
+  took_first : IsTrue old.tells → (s : Source) → IsSource old p s → s.in_memory ≡ false → TookFirst before new At s
+  took_first t s h memory =
+      let rest = rest_of p.given.now.rest (sym h.in_memory ∙ memory) in
+      let few = starts.few rest in
+      let y = own_left p.given.now.rest p.given.now.front.items s.capture (old.left p.file) rest h.capture in
+      let size = y.2 in
+      record {
+        file = p.file;
+        fresh = of_fresh before old places files p.file b.came.are b.among;
+        part = kept_part p.file (number_of At.arrivals) starts.there;
+        took = record { rest = y.0; left = still_left old new p starts along t ∙ y.1; within = omega (arith, few, size) };
+      }
+
   fronts_bare : OfSource old p (Fronts before new At p.seed)
-  fronts_bare = λ t s h records last reads is_last. record {
-    history = [];
-    begun = record { events = tt; in_time = tt };
-    departures = front_of At.departures _ (inl refl) b.departures t bare.departures;
-    fates = front_of At.fates _ (inr (inl refl)) b.fates t bare.fates;
-    stats = inl (front_of At.stats [] (inr (inr (inl refl))) b.stats t bare.stats);
+  fronts_bare = λ t s h. record {
+    heads = inr (inl (front_of At.fates [] (inr (inl refl)) b.fates t bare.fates), λ memory. inr (took_first t s h memory));
+    texts = λ records last reads is_last. record {
+      history = [];
+      begun = record { events = tt; in_time = tt };
+      departures = front_of At.departures _ (inl refl) b.departures t bare.departures;
+      fates = front_of At.fates _ (inr (inl refl)) b.fates t bare.fates;
+      stats = inl (front_of At.stats [] (inr (inr (inl refl))) b.stats t bare.stats);
+    };
   }
 
   fails_bare : (f : PlayFault) → IsUncreated At old new f → PlayFails (OfSource old p) At p.seed before new f
@@ -127,32 +178,22 @@ module _ (before old new : View) (places : List Place) (files : List ℕ) (p : P
 
 -- no output came to be at all
 pub unbuilt : (before old : View) (places : List Place) (files : List ℕ) (p : Play) (stood : List LabelledEvent → Type 0) (kept : List KeptFate → Type 0)
-    → HaveLaws → IsConfigured p.interface.now → IsBehind before old places files p → HasEnded stood kept before old old places files p (Err play.NoMemory)
-unbuilt before old places files p stood kept laws configured b =
-    uncreated before old old places files p b (came_some [] (outputs_at (places_in p)) [] old old (came_none old)) (none_bare (places_in p) old) stood kept play.NoMemory
+    → HaveLaws → IsConfigured p.interface.now → Starts old p → IsBehind before old places files p → HasEnded stood kept before old old places files p (Err play.NoMemory)
+unbuilt before old places files p stood kept laws configured starts b =
+    uncreated before old old places files p b starts (came_some [] (outputs_at (places_in p)) [] old old (came_none old)) (none_bare (places_in p) old) stood kept play.NoMemory
     laws configured tt
 
--- the arrivals have another name than the outputs
-pub arrivals_other : (old : View) (p : Play) → AreSeparate (places_in p) → (IsTrue old.tells → old.name p.file ≡ p.arrivals.name.now) → IsTrue old.tells
-    → IsOther old (outputs_at (places_in p)) (old.name p.file)
-arrivals_other old p s named t =
-    let w = places_in p in
-    subst (λ (m : List ℕ). IsOther old (outputs_at w) m) (sym (named t))
-    (other_where_told old p.arrivals.name.now (outputs_at w) t
-    (written_all w.departures.way _ s.arrivals_departures, (written_all w.fates.way _ s.arrivals_fates, (written_all w.stats.way _ s.arrivals_stats, tt))))
-
 -- so the loop may begin
-pub ready_of : (old created : View) (p : Play) (o : Opened) → AreSeparate (places_in p)
-    → Came (outputs_at (places_in p)) (o.departures ∷ o.fates ∷ o.stats ∷ []) old created → (IsTrue old.tells → AreEmpty created (outputs_at (places_in p)))
-    → (IsTrue old.tells → old.name p.file ≡ p.arrivals.name.now) → (part : ℕ) → old.part p.file ≡ Some part → o.arrivals ≡ p.file → length o.first.now ≤ 24
-    → AreReady created o
-ready_of old created p o s came empty named part there is few =
+pub ready_of : (old created : View) (p : Play) (o : Opened) → Starts old p → Came (outputs_at (places_in p)) (o.departures ∷ o.fates ∷ o.stats ∷ []) old created
+    → (IsTrue old.tells → AreEmpty created (outputs_at (places_in p))) → o.arrivals ≡ p.file → length o.first.now ≤ 4 → AreReady created o
+ready_of old created p o starts came empty is few =
     let w = places_in p in
+    let s = starts.separate in
     let outs = outputs_at w in
     let fs : List ℕ = o.departures ∷ o.fates ∷ o.stats ∷ [] in
     record {
-      arrivals = is_some_of _ part (ap created.part is ∙ came.keeps.part p.file part there);
-      few = few;
+      arrivals = is_some_of _ (number_of w.arrivals) (ap created.part is ∙ came.keeps.part p.file (number_of w.arrivals) starts.there);
+      few = omega (arith, few);
       empty = record {
         departures = empty_holds outs fs 0 w.departures old created refl s.departures came empty;
         fates = empty_holds outs fs 1 w.fates old created refl s.fates came empty;
@@ -169,7 +210,7 @@ ready_of old created p o s came empty named part there is few =
         → created.name o.arrivals ≡ created.name file → ⊥
     beside t e file of other h =
         let told : IsTrue old.tells = sym came.keeps.tells ∙ t in
-        other (sym (named told) ∙ sym (came.keeps.name p.file part there) ∙ ap created.name (sym is) ∙ h ∙ of.name told)
+        other (sym (starts.named told) ∙ sym (came.keeps.name p.file _ starts.there) ∙ ap created.name (sym is) ∙ h ∙ of.name told)
 
 -- a name that is no output's is that of no file of an output
 no_output : (r : Run) → Steps r → (n : List ℕ) → IsOther r.old (outputs_at (places_in r.play)) n → IsNoOutput r.created r.opened n
@@ -213,26 +254,22 @@ only_plays r s took =
         (k.1 ∙ ap (λ (n : ℕ). Some n) same)
 
 -- so it is where only outputs came to be
-pub only_created : (old new : View) (p : Play) → CameAlong (outputs_at (places_in p)) old new → new.said ≡ old.said
-    → (IsTrue old.tells → IsOther old (outputs_at (places_in p)) (old.name p.file)) → (part : ℕ) → old.part p.file ≡ Some part → OnlyPlays old new p
-only_created old new p along said other part there =
+pub only_created : (old new : View) (p : Play) → Starts old p → CameAlong (outputs_at (places_in p)) old new → new.said ≡ old.said → OnlyPlays old new p
+only_created old new p starts along said =
     let k = along.came.keeps in
     record {
       keeps = record {
         tells = k.tells;
-        bytes = λ n h. k.bytes n (within n h);
-        left = λ f q at h. k.left f q at (within (old.name f) h.1);
+        bytes = λ n h. k.bytes n (within old new p starts along n h);
+        left = λ f q at h. k.left f q at (within old new p starts along (old.name f) h.1);
         part = k.part;
         name = k.name;
         later = k.later;
       };
       only = λ f q fresh e. has_first q along.front along.rest (outputs_at (places_in p)) along.split (part_of old new along.front along.files f q along.came.are (along.came.only f q fresh e) e);
-      took = λ t all at. (all, k.left p.file part there (within (old.name p.file) (other t)) ∙ at, omega arith);
+      took = λ t all at. (all, still_left old new p starts along t ∙ at, omega arith);
       said = said;
     }
-  where
-    within : (n : List ℕ) → IsOther old (outputs_at (places_in p)) n → IsOther old along.front n
-    within n h = other_first old n along.front along.rest (subst (λ (es : List Place). IsOther old es n) along.split h)
 
 among_both : (f : ℕ) (fs gs : List ℕ) → IsAmong f fs → IsAmong f (fs ++ gs)
 among_both f [] gs h = absurd h
@@ -267,7 +304,7 @@ module _ (r : Run) (s : Steps r) (before : View) (places : List Place) (files : 
   failed_so : (stood : List LabelledEvent → Type 0) (kept told : List KeptFate → Type 0) (fault f : PlayFault) → CameIn r stood told (Err fault)
       → PlayFails (OfSource r.old r.play) (places_in r.play) r.play.seed before r.after f → HasEnded stood kept before r.old r.after places files r.play (Err f)
   failed_so stood kept told fault f came fails =
-      failed stood kept before r.old r.after places files r.play f s.laws s.configured fails (fronts_of r s before fault came.1 came.2)
+      failed stood kept before r.old r.after places files r.play f s.laws s.configured fails (fronts_of r s before places files b fault came.1 came.2 came.3)
       (came_all _ _ before r.after all_came)
 
   -- it was played, or it was but for a fault
@@ -279,7 +316,7 @@ module _ (r : Run) (s : Steps r) (before : View) (places : List Place) (files : 
       record {
         done = done;
         fails = tt;
-        fronts = fronts_whole r s before stood kept totals came.0;
+        fronts = λ t z h. played_fronts before r.after (places_in r.play) r.play.seed z (done t z h).played;
         must = λ q t z h. done_as_expected r.after (places_in r.play) r.play.seed z totals (done t z h).played;
         along = came_all _ _ before r.after all_came;
         came = (opened_in r, all_came);
@@ -297,26 +334,21 @@ module _ (r : Run) (s : Steps r) (before : View) (places : List Place) (files : 
       by play.NoMemory x = failed_so stood kept kept play.NoMemory play.NoMemory x tt
 
 -- whatever the files tell, of a play that is done
-pub decided_as : (r : Run) (stood : List LabelledEvent → Type 0) (kept : List KeptFate → Type 0) (rest : Bool) (o : Result Totals PlayFault) → CameIn r stood kept o
-    → IfOk (told_as rest o) (HasDecided (setup_in r) kept)
-decided_as r stood kept rest (Ok totals) x = x.1
-decided_as r stood kept true (Err fault) x = tt
-decided_as r stood kept false (Err fault) x = tt
+pub decided_as : {x : Setup} {stood : List LabelledEvent → Type 0} {kept : List KeptFate → Type 0} {p : Play} {o : Opened} {old new : View} (rest : Bool)
+    (r : Result Totals PlayFault) → CameThrough x stood kept p o r old new → IfOk (told_as rest r) (HasDecided x kept)
+decided_as rest (Ok totals) c = c.came.1
+decided_as true (Err fault) c = tt
+decided_as false (Err fault) c = tt
 
-first_few : (way : Way Classes) (rest : Bool) (front : List ℕ) → is_streamed way ≡ rest → (rest ≡ true → length front ≤ 24) → length (first_of way front) ≤ 24
+first_few : (way : Way Classes) (rest : Bool) (front : List ℕ) → is_streamed way ≡ rest → (rest ≡ true → length front ≤ 4) → length (first_of way front) ≤ 4
 first_few AsGiven rest front e few = few (sym e)
 first_few Converted rest front e few = omega arith
 first_few (Marked m) rest front e few = omega arith
 first_few (MarkedConverted m) rest front e few = omega arith
 
-pub few_first : (way : Way Classes) (rest : Bool) (front first : List ℕ) → is_streamed way ≡ rest → (rest ≡ true → length front ≤ 24) → first ≡ first_of way front
-    → length first ≤ 24
-few_first way rest front first e few is = subst (λ (l : List ℕ). length l ≤ 24) (sym is) (first_few way rest front e few)
-
--- what the arrivals have left when the outputs were created is what they had
-pub still_left : (old created : View) (p : Play) (fs : List ℕ) (part : ℕ) → AreSeparate (places_in p) → Came (outputs_at (places_in p)) fs old created
-    → (IsTrue old.tells → old.name p.file ≡ p.arrivals.name.now) → old.part p.file ≡ Some part → IsTrue old.tells → created.left p.file ≡ old.left p.file
-still_left old created p fs part s came named there t = came.keeps.left p.file part there (arrivals_other old p s named t)
+pub few_first : (way : Way Classes) (rest : Bool) (front first : List ℕ) → is_streamed way ≡ rest → (rest ≡ true → length front ≤ 4) → first ≡ first_of way front
+    → length first ≤ 4
+few_first way rest front first e few is = subst (λ (l : List ℕ). length l ≤ 4) (sym is) (first_few way rest front e few)
 
 pub no_longer_since : (old created after : View) (file : ℕ) → created.tells ≡ old.tells → (IsTrue old.tells → created.left file ≡ old.left file)
     → IsNoLonger created after file → IsNoLonger old after file

@@ -18,11 +18,12 @@ use Rattle.play_loop.specs.declared.fault.Output.TheVariants as output
 use Rattle.play_loop.specs.declared.fault.PlayFault.{PlayFault}
 use Rattle.play_loop.specs.declared.fault.PlayFault.TheVariants as play
 use Rattle.play_loop.specs.declared.kept.KeptFate.{KeptFate}
-use Rattle.play_loop.specs.Played.{HasBegunStats, HasOffered, HasStopped, HoldTexts, start_of}
+use Rattle.play_loop.specs.Played.{HasBegunStats, HasOffered, HasStopped, HaveHeads, HoldTexts, RowsWait, start_of}
 use Rattle.play_loop.specs.Setup.{Setup, arrivals_in}
 use Rattle.play_loop.specs.Told.{HasDecided, HasTold}
 use Rattle.interface_play.specs.declared.play.Play.{Play}
-use Rattle.interface_play.specs.Failing.{AreTaken, StreamsWithin, most_past}
+use Rattle.interface_play.specs.Failing.{AreTaken, StreamsWithin, TookWithin, most_past}
+use Rattle.interface_play.specs.Fronts.{most_held}
 use Rattle.interface_play.specs.Setup.{Untold, setup_of}
 use Rattle.interface_play.specs.Source.{OfSource, Source}
 
@@ -108,7 +109,16 @@ StatsLeft r (play.Write output.Statistics) = Sees r (StatsOf (setup_in r) r.afte
 StatsLeft r (play.Limit limit) = HoldsAt r.after r.opened.stats []
 StatsLeft r play.NoMemory = StatsBegun r
 
+-- the heads stand, or of the fates nothing before those of the departures, and of a capture that is read as it is played few bytes were taken
+abbrev pub TookFirst : Run → Type 0
+TookFirst r = r.play.given.now.rest ≡ true → (capture : List ℕ) → IsGiven r capture
+    → TookWithin (most_held r.play.interface.now) r.after r.opened.arrivals 4 capture
+
+abbrev pub HeadsIn : Run → Type 0
+HeadsIn r = IsTrue r.old.tells → HaveHeads r.after r.opened.departures r.opened.fates
+    ⊎ (RowsWait r.after r.opened.departures r.opened.fates × TookFirst r)
+
 -- what came of the play
 abbrev pub CameIn : Run → (List LabelledEvent → Type 0) → (List KeptFate → Type 0) → Result Totals PlayFault → Type 0
 CameIn r stood kept (Ok totals) = Sees r (ToldOf (setup_in r) stood kept r.after r.opened totals) × HasDecided (setup_in r) kept totals
-CameIn r stood kept (Err fault) = Explained r fault × Sees r (FrontsOf (setup_in r) r.after r.opened) × StatsLeft r fault
+CameIn r stood kept (Err fault) = Explained r fault × Sees r (FrontsOf (setup_in r) r.after r.opened) × StatsLeft r fault × HeadsIn r

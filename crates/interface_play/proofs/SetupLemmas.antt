@@ -18,7 +18,7 @@ use Rattle.play_loop.specs.declared.fault.Opened.{Opened}
 use Rattle.play_loop.specs.declared.fault.Output.TheVariants as output
 use Rattle.play_loop.specs.declared.fault.PlayFault.{PlayFault}
 use Rattle.play_loop.specs.declared.fault.PlayFault.TheVariants as play
-use Rattle.play_loop.specs.Played.{Explains, Fronts, HasOffered, IsStanding, LeavesStats}
+use Rattle.play_loop.specs.Played.{Explains, Fronts, HasOffered, HeadsFirst, IsStanding, LeavesStats}
 use Rattle.play_loop.specs.declared.kept.KeptFate.{KeptFate}
 use Rattle.play_loop.specs.Setup.{Setup}
 use Rattle.play_loop.specs.Setup as loop
@@ -101,8 +101,8 @@ named_of laws i names place x e f frame =
 -- what the loop says of what was built came of the play of the interface
 pub came_built : (x y : Setup) (stands : List LabelledEvent → Type 0) (kept : List KeptFate → Type 0) (u v : View) (o : Opened) (r : Result Totals PlayFault) → x ≡ y
     → IfOk r (Tells x stands kept u v o) → IfOk r (HasDecided x kept) → IfErr r (Explains x stands u v o) → OnErr r (Fronts x u v o) → IfErr r (LeavesStats x u v o)
-    → CameOf y stands kept o r u v
-came_built x y stands kept u v o (Ok totals) e told decided why front stats =
+    → OnErr r (HeadsFirst u v o) → CameOf y stands kept o r u v
+came_built x y stands kept u v o (Ok totals) e told decided why front stats heads =
     subst (λ (z : Setup). CameOf z stands kept o (Ok totals) u v) e (told, decided)
-came_built x y stands kept u v o (Err fault) e told decided why front stats =
-    subst (λ (z : Setup). CameOf z stands kept o (Err fault) u v) e (explains_untold x stands u v o fault why, front, stats)
+came_built x y stands kept u v o (Err fault) e told decided why front stats heads =
+    subst (λ (z : Setup). CameOf z stands kept o (Err fault) u v) e (explains_untold x stands u v o fault why, front, stats, heads)

@@ -1,8 +1,9 @@
 -- From the files of a play to the names of its places.
-use Rattle.std.proofs.Common.{◌≡◌, ◌++◌, ◌∙◌, ℕ, List, [], ◌∷◌, None, Some, ap, append-nil, sym, refl, subst, inl, inr}
+use Rattle.std.proofs.Common.{◌≡◌, ◌++◌, ◌∙◌, ◌⊎◌, ℕ, List, [], ◌∷◌, None, Some, ap, sym, refl, subst, inl, inr}
 use Rattle.std.specs.Prelude.{Bool, IsTrue, cond, false, true}
 use Rattle.altq_model.specs.History.{LabelledEvent}
 use Rattle.capture_model.specs.Capture.{Record, Step, End, Fault, Limit, Reads, IsLast}
+use Rattle.capture_model.specs.Header.{capture_header}
 use Rattle.file_plans.specs.Came.{Came, IsOf}
 use Rattle.file_plans.specs.Plan.{Place, number_of}
 use Rattle.file_plans.proofs.CameLaws.{of_fresh}
@@ -12,6 +13,7 @@ use Rattle.play_base.specs.Holds.{HoldsAt}
 use Rattle.play_base.specs.View.{View, Later, NoneAppears, Rose}
 use Rattle.play_base.proofs.ViewLaws.{later_trans, rose_later}
 use Rattle.play_core.specs.declared.totals.Totals.{Totals}
+use Rattle.play_text.specs.Texts.{fates_header}
 use Rattle.play_loop.specs.declared.fault.Limit.TheVariants as limit
 use Rattle.play_loop.specs.declared.fault.Output.TheVariants as output
 use Rattle.play_loop.specs.declared.fault.PlayFault.{PlayFault}
@@ -22,13 +24,13 @@ use Rattle.play_loop.specs.Played as loop
 use Rattle.play_loop.specs.Setup.{arrivals_in}
 use Rattle.interface_play.specs.Ended.{IsBehind}
 use Rattle.interface_play.specs.Failing.{HasOffered, HasWholeTexts, IsCutShort, IsLate, IsOffered, PlayFails}
-use Rattle.interface_play.specs.Fronts.{Fronts, HasFronts, HasStatsFront, IsFrontAt}
+use Rattle.interface_play.specs.Fronts.{BeginsWith, Fronts, HasStatsFront, HeadsFirst, IsFrontAt, RowsWait}
 use Rattle.interface_play.specs.Laws.{HaveLaws}
 use Rattle.interface_play.specs.Played.{HoldTexts, IsDone, WasPlayed}
 use Rattle.interface_play.specs.Setup.{IsConfigured, Untold}
 use Rattle.interface_play.specs.Source.{AreSeparate, OfSource, Places, outputs_at, places_in}
 use Rattle.interface_play.proofs.Cited.{promises_kept}
-use Rattle.interface_play.proofs.SeeingLemmas.{Explained, FrontsOf, IsGiven, LateIn, OffersOf, Run, Sees, ShortIn, StatsBegun, StatsLeft, StatsOf, ToldOf, of_source, setup_in, source_in}
+use Rattle.interface_play.proofs.SeeingLemmas.{Explained, FrontsOf, HeadsIn, IsGiven, LateIn, OffersOf, Run, Sees, ShortIn, StatsBegun, StatsLeft, StatsOf, ToldOf, TookFirst, of_source, setup_in, source_in}
 
 abbrev pub opened_in : Run → List ℕ
 opened_in r = r.opened.departures ∷ r.opened.fates ∷ r.opened.stats ∷ []
@@ -46,10 +48,13 @@ pub record Steps (r : Run) : Type 0 where
   pub configured : IsConfigured r.play.interface.now
 
 -- what a file of the play holds stands under its name
+at_name : (r : Run) (e : Place) (file : ℕ) → KeepsPlayed r.opened r.created r.after → IsOf r.old r.created e file → IsTrue r.old.tells
+    → r.after.bytes e.name ≡ r.after.bytes (r.after.name file)
+at_name r e file k of t = ap r.after.bytes (sym (k.name file (number_of e) of.part ∙ of.name t))
+
 held_at : (r : Run) (e : Place) (file : ℕ) (text : List ℕ) → KeepsPlayed r.opened r.created r.after → IsOf r.old r.created e file → r.created.tells ≡ r.old.tells
     → IsTrue r.old.tells → HoldsAt r.after file text → r.after.bytes e.name ≡ Some text
-held_at r e file text k of same t h =
-    ap r.after.bytes (sym (k.name file (number_of e) of.part ∙ of.name t)) ∙ h.bytes (k.tells ∙ same ∙ t)
+held_at r e file text k of same t h = at_name r e file k of t ∙ h.bytes (k.tells ∙ same ∙ t)
 
 front_at : (a c : View) (e : Place) (text written rest : List ℕ) → c.bytes e.name ≡ Some written → written ++ rest ≡ text → IsFrontAt a c e text
 front_at a c e text written rest at s = inr (written, rest, at, s)
@@ -64,7 +69,7 @@ begins r (play.Capture damage) h = inl h
 begins r play.Read h = inl h
 begins r (play.Limit limit) h = inl h
 
-rest_of : (rest : Bool) → cond rest false true ≡ false → rest ≡ true
+pub rest_of : (rest : Bool) → cond rest false true ≡ false → rest ≡ true
 rest_of true e = refl
 rest_of false e = absurd (cc)
 
@@ -104,22 +109,6 @@ module _ (r : Run) (s : Steps r) where
       } in
       record { played = was; totals = refl; stands = y.stands; told = x.2.told })
 
-  -- whole texts are fronts
-  pub fronts_whole : (before : View) (stood : List LabelledEvent → Type 0) (kept : List KeptFate → Type 0) (totals : Totals)
-      → Sees r (ToldOf (setup_in r) stood kept r.after r.opened totals) → OfSource r.old r.play (Fronts before r.after At r.play.seed)
-  fronts_whole before stood kept totals p = of_source r (Fronts before r.after At r.play.seed) (λ t capture e records last reads is_last.
-      let x = p t capture e in
-      let y = x.2.played in
-      let one = one_reading (marked_in r.play.interface.now capture) x.0 records End last x.1 tt reads is_last in
-      let R : List Record → Type 0 = λ rs. HasFronts before r.after At (setup_in r) rs in
-      subst R one.0 (record {
-        history = y.history;
-        begun = record { events = y.play.play.events; in_time = y.play.in_time };
-        departures = front_at before r.after At.departures _ _ [] (departures_held _ t y.texts.departures) (append-nil _);
-        fates = front_at before r.after At.fates _ _ [] (fates_held _ t y.texts.fates) (append-nil _);
-        stats = inr (y.history, y.play.play, texts_of x.0 y.history t y.texts, front_at before r.after At.stats _ _ [] (stats_held _ t y.stats) (append-nil _));
-      }))
-
   stats_front : (before : View) (capture : List ℕ) (records : List Record) (last : Step) → IsTrue r.old.tells → IsGiven r capture
       → Reads (marked_in r.play.interface.now capture) records last → IsLast last → StatsBegun r → HasStatsFront before r.after At (setup_in r) records
   stats_front before capture records last t e reads is_last (inl h) = inl (front_at before r.after At.stats [] [] [] (stats_held [] t h) refl)
@@ -135,19 +124,6 @@ module _ (r : Run) (s : Steps r) where
         texts_of y.0 z.history t z.texts,
         front_at before r.after At.stats _ z.stats.written z.stats.rest (stats_held _ t z.stats.holds) z.stats.split,
       ))
-
-  pub fronts_of : (before : View) (fault : PlayFault) → Sees r (FrontsOf (setup_in r) r.after r.opened) → StatsLeft r fault
-      → OfSource r.old r.play (Fronts before r.after At r.play.seed)
-  fronts_of before fault f q = of_source r (Fronts before r.after At r.play.seed) (λ t capture e records last reads is_last.
-      let x = f t capture e records last reads is_last in
-      record {
-        history = x.history;
-        begun = x.begun;
-        departures = front_at before r.after At.departures _ x.texts.departures.written x.texts.departures.rest
-            (departures_held _ t x.texts.departures.holds) x.texts.departures.split;
-        fates = front_at before r.after At.fates _ x.texts.fates.written x.texts.fates.rest (fates_held _ t x.texts.fates.holds) x.texts.fates.split;
-        stats = stats_front before capture records last t e reads is_last (begins r fault q);
-      })
 
   -- all complete records were offered
   has_offered : (records : List Record) → loop.HasOffered (setup_in r) Untold r.after r.opened records → HoldsAt r.after r.opened.stats [] → IsTrue r.old.tells
@@ -175,6 +151,48 @@ module _ (r : Run) (s : Steps r) where
     part =
         ap r.after.part s.arrivals
         ∙ s.played.part r.play.file (number_of At.arrivals) (s.came.keeps.part r.play.file (number_of At.arrivals) s.there)
+
+    -- fronts of the texts stand, the heads first
+    begins_at : (e : Place) (file : ℕ) (front : List ℕ) → IsOf r.old r.created e file → IsTrue r.old.tells → loop.BeginsWith r.after file front
+        → BeginsWith r.after e front
+    begins_at e file front of t x = (x.0, at_name r e file s.played of t ∙ x.1)
+
+    heads_first : (capture : List ℕ) → IsTrue r.old.tells → IsGiven r capture → HeadsIn r → HeadsFirst before r.after At (source_in r capture)
+    heads_first capture t e h = by (h t)
+      where
+        of : IsOf r.old r.created At.departures r.opened.departures
+        of = s.came.are.0
+
+        rows : loop.RowsWait r.after r.opened.departures r.opened.fates → RowsWait before r.after At
+        rows (inl x) = inl (front_at before r.after At.fates [] [] [] (at_name r At.fates r.opened.fates s.played s.came.are.1.0 t ∙ x) refl)
+        rows (inr x) = inr (begins_at At.departures r.opened.departures capture_header of t x)
+
+        by : loop.HaveHeads r.after r.opened.departures r.opened.fates ⊎ (loop.RowsWait r.after r.opened.departures r.opened.fates × TookFirst r)
+            → HeadsFirst before r.after At (source_in r capture)
+        by (inl x) = inl (
+          begins_at At.departures r.opened.departures capture_header of t x.0,
+          begins_at At.fates r.opened.fates fates_header s.came.are.1.0 t x.1,
+        )
+        by (inr x) = inr (
+          rows x.0,
+          λ memory. inr (record { file = r.opened.arrivals; fresh = fresh; part = part; took = x.1 (rest_of r.play.given.now.rest memory) capture e }),
+        )
+
+    pub fronts_of : (fault : PlayFault) → Sees r (FrontsOf (setup_in r) r.after r.opened) → StatsLeft r fault → HeadsIn r
+        → OfSource r.old r.play (Fronts before r.after At r.play.seed)
+    fronts_of fault f q h = of_source r (Fronts before r.after At r.play.seed) (λ t capture e. record {
+      heads = heads_first capture t e h;
+      texts = λ records last reads is_last.
+          let x = f t capture e records last reads is_last in
+          record {
+            history = x.history;
+            begun = x.begun;
+            departures = front_at before r.after At.departures _ x.texts.departures.written x.texts.departures.rest
+                (departures_held _ t x.texts.departures.holds) x.texts.departures.split;
+            fates = front_at before r.after At.fates _ x.texts.fates.written x.texts.fates.rest (fates_held _ t x.texts.fates.holds) x.texts.fates.split;
+            stats = stats_front before capture records last t e reads is_last (begins r fault q);
+          };
+    })
 
     -- a read of the arrivals failed
     short_of : r.play.given.now.rest ≡ true → Sees r (ShortIn r) → HoldsAt r.after r.opened.stats []

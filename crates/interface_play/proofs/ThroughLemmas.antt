@@ -1,12 +1,12 @@
 -- From the play over files of which one has other bytes left to these files.
-use Rattle.std.proofs.Common.{◌≡◌, ◌+◌, ◌∙◌, ℕ, Bool, true, false, List, [], Some, Ok, Err, arith, ap, sym, subst, inl, inr}
+use Rattle.std.proofs.Common.{◌≡◌, ◌≤◌, ◌+◌, ◌++◌, ◌∙◌, ◌⊎◌, ℕ, Bool, true, false, List, [], Some, Ok, Err, length, length-append, arith, ap, sym, subst, inl, inr}
 use Rattle.std.specs.Prelude.{IsTrue, if◌then◌else◌}
 use Rattle.std.specs.declared.option.Option.{Option}
 use Rattle.std.specs.declared.result.Result.{Result}
 use Rattle.altq_model.specs.History.{LabelledEvent}
 use Rattle.capture_model.specs.Capture.{Record, Step, Fault, Limit, Reads, IsLast}
 use Rattle.gathered_writes.specs.Gathered.{HoldsFront}
-use Rattle.interface_marks.specs.Conditioners.{is_conditioned}
+use Rattle.interface_marks.specs.Conditioners.{conditioning_of, is_conditioned, marked_in}
 use Rattle.pcap_files.specs.Reading.{AreAllTaken}
 use Rattle.pcapng_files.specs.Fronts.{with_front}
 use Rattle.play_base.specs.Holds.{HoldsAt}
@@ -18,12 +18,13 @@ use Rattle.play_loop.specs.declared.fault.Output.TheVariants as output
 use Rattle.play_loop.specs.declared.fault.PlayFault.{PlayFault}
 use Rattle.play_loop.specs.declared.fault.PlayFault.TheVariants as play
 use Rattle.play_loop.specs.declared.kept.KeptFate.{KeptFate}
-use Rattle.play_loop.specs.Played.{AreBegun, AreReady, BeginsStats, Explains, HasBegunStats, HasOffered, HasPlayed, HasStopped, HoldTexts, LeavesStats, OfArrivals, Streams, WasCutOff, start_of}
+use Rattle.play_loop.specs.Played.{AreBegun, AreReady, BeginsStats, Explains, HasBegunStats, HasOffered, HasPlayed, HasStopped, HaveHeads, HeadsFirst, HoldTexts, LeavesStats, OfArrivals, RowsWait, Streams, WasCutOff, start_of}
 use Rattle.play_loop.specs.Setup.{Setup, arrivals_in}
+use Rattle.traffic_marks.proofs.Lengths.{length-marked}
 use Rattle.interface_play.specs.Failing.{AreTaken, StreamsWithin}
 use Rattle.interface_play.specs.Setup.{Untold}
 use Rattle.interface_play.specs.Steps.{CameOf, CameThrough, IsHeld, Passage, with_left}
-use Rattle.interface_play.proofs.SeeingLemmas.{CameIn, Explained, FrontsOf, LateIn, OffersOf, Run, Sees, ShortIn, StatsLeft, StatsOf, ToldOf, setup_in}
+use Rattle.interface_play.proofs.SeeingLemmas.{CameIn, Explained, FrontsOf, HeadsIn, IsGiven, LateIn, OffersOf, Run, Sees, ShortIn, StatsLeft, StatsOf, ToldOf, TookFirst, setup_in}
 
 -- the files tell the same but for what one has left
 module _ (c : View) (left : ℕ → Option (List ℕ)) (fixed : List ℕ) where
@@ -127,6 +128,12 @@ module _ (c : View) (file : ℕ) (after : ℕ → Option (List ℕ)) (fixed : Li
       let y = past x.rest x.left in
       record { rest = x.rest; left = y.1 ∙ ap (λ (l : List ℕ). Some l) (sym y.2); within = x.within }
 
+-- what was taken of a capture of which nothing was given
+held_first : (b : Bool) (first rest mine : List ℕ) (n : ℕ) → length first ≤ 4 → length (first ++ rest) ≡ n → IsHeld b rest mine
+    → n ≤ 4 + (if b then 262160 else 0) + length mine
+held_first true first rest mine n few e h = omega (arith, few, e, h, length-append first rest)
+held_first false first rest mine n few e h = omega (arith, few, e, ap (λ (l : List ℕ). length l) h, length-append first rest)
+
 -- what a play over the passage of the arrivals says is seen of its source
 module _ (r : Run) (p : Passage r.play r.opened r.created r.after) (tells : r.created.tells ≡ r.old.tells)
     (left : IsTrue r.old.tells → r.created.left r.opened.arrivals ≡ r.old.left r.play.file) where
@@ -136,11 +143,31 @@ module _ (r : Run) (p : Passage r.play r.opened r.created r.after) (tells : r.cr
   abbrev New : View
   New = with_left r.after p.after p.fixed_after
 
-  sees : (P : List ℕ → Type 0) → OfArrivals Old r.opened P → Sees r P
-  sees P x = λ t capture e.
+  joined : IsTrue r.old.tells → (capture : List ℕ) → IsGiven r capture
+      → (rest : List ℕ) × (p.before r.opened.arrivals ≡ Some rest) × (r.opened.first.now ++ rest ≡ marked_in r.play.interface.now capture)
+  joined t capture e =
       let gv = r.play.given.now in
-      let z = p.joined (tells ∙ t) capture (ap (λ (o : Option (List ℕ)). with_front true gv.rest gv.front.items o) (left t) ∙ e) in
-      subst P z.2 (x (tells ∙ t) z.0 z.1)
+      p.joined (tells ∙ t) capture (ap (λ (o : Option (List ℕ)). with_front true gv.rest gv.front.items o) (left t) ∙ e)
+
+  sees : (P : List ℕ → Type 0) → OfArrivals Old r.opened P → Sees r P
+  sees P x = λ t capture e. (let z = joined t capture e in subst P z.2 (x (tells ∙ t) z.0 z.1))
+
+  heads : length r.opened.first.now ≤ 4 → HeadsFirst Old New r.opened → HeadsIn r
+  heads few h t = by (h (tells ∙ t))
+    where
+      by : HaveHeads r.after r.opened.departures r.opened.fates
+          ⊎ (RowsWait r.after r.opened.departures r.opened.fates × (p.after r.opened.arrivals ≡ p.before r.opened.arrivals))
+          → HaveHeads r.after r.opened.departures r.opened.fates ⊎ (RowsWait r.after r.opened.departures r.opened.fates × TookFirst r)
+      by (inl x) = inl x
+      by (inr x) = inr (
+        x.0,
+        λ rest capture e.
+            let i = r.play.interface.now in
+            let z = joined t capture e in
+            let y = p.past rest z.0 (x.1 ∙ z.1) in
+            let size = ap (λ (l : List ℕ). length l) z.2 ∙ length-marked (conditioning_of i) capture in
+            record { rest = y.0; left = y.1; within = held_first (is_conditioned i) r.opened.first.now z.0 y.0 (length capture) few size y.2 },
+      )
 
   offers : (last : Step) → OfArrivals Old r.opened (OffersOf (setup_in r) New r.opened last) → Sees r (OffersOf (setup_in r) r.after r.opened last)
   offers last h = λ t capture e.
@@ -208,10 +235,10 @@ module _ (r : Run) (p : Passage r.play r.opened r.created r.after) (tells : r.cr
       by (inl k) = inl (none_left k)
       by (inr k) = inr (are_begun k)
 
-  seen : (stood : List LabelledEvent → Type 0) (kept : List KeptFate → Type 0) (o : Result Totals PlayFault)
+  seen : (stood : List LabelledEvent → Type 0) (kept : List KeptFate → Type 0) (o : Result Totals PlayFault) → length r.opened.first.now ≤ 4
       → CameOf (setup_in r) stood kept r.opened o Old New → CameIn r stood kept o
   unfolding played
-  seen stood kept (Ok totals) h = (
+  seen stood kept (Ok totals) few h = (
     λ t capture e.
         let y = sees (ToldOf (setup_in r) stood kept New r.opened totals) h.0 t capture e in (
           y.0,
@@ -220,15 +247,16 @@ module _ (r : Run) (p : Passage r.play r.opened r.created r.after) (tells : r.cr
         ),
     h.1,
   )
-  seen stood kept (Err fault) h = (
+  seen stood kept (Err fault) few h = (
     explained fault h.0,
     λ t capture e records last reads is_last.
         stopped r.after p.after p.fixed_after (setup_in r) r.opened records (sees (FrontsOf (setup_in r) New r.opened) h.1 t capture e records last reads is_last),
     stats_left fault h.2,
+    heads few h.3,
   )
 
 -- what came of a play of what it saw is seen of its source
 pub came : (r : Run) (stood : List LabelledEvent → Type 0) (kept : List KeptFate → Type 0) (o : Result Totals PlayFault)
-    → r.created.tells ≡ r.old.tells → (IsTrue r.old.tells → r.created.left r.opened.arrivals ≡ r.old.left r.play.file)
+    → r.created.tells ≡ r.old.tells → (IsTrue r.old.tells → r.created.left r.opened.arrivals ≡ r.old.left r.play.file) → length r.opened.first.now ≤ 4
     → CameThrough (setup_in r) stood kept r.play r.opened o r.created r.after → CameIn r stood kept o
-came r stood kept o tells left x = seen r x.passage tells left stood kept o x.came
+came r stood kept o tells left few x = seen r x.passage tells left stood kept o few x.came

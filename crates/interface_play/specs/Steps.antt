@@ -14,7 +14,7 @@ use Rattle.play_loop.specs.declared.fault.PlayFault.{PlayFault}
 use Rattle.play_loop.specs.declared.fault.PlayFault.TheVariants as play
 use Rattle.play_loop.specs.declared.kept.KeptFate.{KeptFate}
 use Rattle.play_loop.specs.Kept.{KeepsPlayed}
-use Rattle.play_loop.specs.Played.{Explains, Fronts, LeavesStats}
+use Rattle.play_loop.specs.Played.{Explains, Fronts, HeadsFirst, LeavesStats}
 use Rattle.play_loop.specs.Setup.{Setup}
 use Rattle.play_loop.specs.Told.{HasDecided, Tells}
 use Rattle.run_outcomes.specs.Faults.{WriteFailed}
@@ -42,7 +42,7 @@ IsUncreated w old new other = ⊥
 -- what came of a play over files: it was played, as the discipline stands for it and the keeper was told, or why it was not, and what it leaves
 abbrev pub CameOf : Setup → (List LabelledEvent → Type 0) → (List KeptFate → Type 0) → Opened → Result Totals PlayFault → View → View → Type 0
 CameOf x stood kept o (Ok totals) old new = Tells x stood kept old new o totals × HasDecided x kept totals
-CameOf x stood kept o (Err fault) old new = Explains x Untold old new o fault × Fronts x old new o × LeavesStats x old new o fault
+CameOf x stood kept o (Err fault) old new = Explains x Untold old new o fault × Fronts x old new o × LeavesStats x old new o fault × HeadsFirst old new o
 
 -- what stays as it was
 pub record Stays (o : Opened) (r : Result Totals PlayFault) (old new : View) : Type 0 where

@@ -35,7 +35,7 @@ fn play_built<D: Discipline + Drop, K: Keeper, F: Files>(
     requires separate { AreSeparate (places_in play.now) }
     requires there { (F.view files.old).part play.now.file ≡ Some (number_of (places_in play.now).arrivals) }
     requires named { IsTrue (F.view files.old).tells → (F.view files.old).name play.now.file ≡ play.now.arrivals.name.now }
-    requires few { play.now.given.now.rest ≡ true → length play.now.given.now.front.items ≤ 24 }
+    requires few { play.now.given.now.rest ≡ true → length play.now.given.now.front.items ≤ 4 }
     ensures ended { (before : View) (places : List Place) (opened : List ℕ) → IsBehind before (F.view files.old) places opened play.now
         → HasEnded Untold (K.told keeper.new) before (F.view files.old) (F.view files.new) places opened play.now result }
     ensures only { OnlyPlays (F.view files.old) (F.view files.new) play.now }
@@ -66,7 +66,7 @@ pub fn play_source<K: Keeper, F: Files>(
     requires separate { AreSeparate (places_in play.now) }
     requires there { (F.view files.old).part play.now.file ≡ Some (number_of (places_in play.now).arrivals) }
     requires named { IsTrue (F.view files.old).tells → (F.view files.old).name play.now.file ≡ play.now.arrivals.name.now }
-    requires few { play.now.given.now.rest ≡ true → length play.now.given.now.front.items ≤ 24 }
+    requires few { play.now.given.now.rest ≡ true → length play.now.given.now.front.items ≤ 4 }
     ensures ended { (before : View) (places : List Place) (opened : List ℕ) → IsBehind before (F.view files.old) places opened play.now
         → HasEnded Untold (K.told keeper.new) before (F.view files.old) (F.view files.new) places opened play.now result }
     ensures only { OnlyPlays (F.view files.old) (F.view files.new) play.now }

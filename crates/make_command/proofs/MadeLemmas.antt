@@ -203,7 +203,7 @@ make_leaves kept u a b d v w n seed count p r y e o = record {
       let P : Places → Type 0 = λ z. Fronts u v z p.seed (made_of u a b d n seed count p r e.begins) in
       let Q : ℕ → Type 0 = λ k. Fronts u v (sole_of n) k (made_of u a b d n seed count p r e.begins) in
       let R : Configured → Type 0 = λ z. Fronts u v (sole_of n) seed (source_made seed count z.found) in
-      fronts_on u v w (sole_of n) seed (source_made seed count c.found) (stays_all Everything v w (sole_of n) o.keeps o.none)
+      fronts_on u v w (sole_of n) seed (source_made seed count c.found) o
       (subst R (sym (one_configured u a b d n seed count p r e.begins t c says))
       (subst Q e.begins.seeded (subst P e.begins.places
       (e.ended.fronts (told_then u a b d n seed count p r e.begins t) (made_of u a b d n seed count p r e.begins) (is_source u a b d n seed count p r e.begins t)))));

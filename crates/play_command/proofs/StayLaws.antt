@@ -10,7 +10,7 @@ use Rattle.file_plans.proofs.CameLaws.{came_works, none_some, same_part, there_o
 use Rattle.file_plans.proofs.EndLaws.{came_some}
 use Rattle.interface_play.specs.declared.play.Play.{Play}
 use Rattle.interface_play.specs.Ended.{HasEnded, IsBehind, OnlyPlays}
-use Rattle.interface_play.specs.Fronts.{Fronts, HasStatsFront, IsFrontAt}
+use Rattle.interface_play.specs.Fronts.{Fronts, HasStatsFront, HeadsFirst, IsFrontAt, RowsWait, TookFirst}
 use Rattle.interface_play.specs.Played.{HoldTexts, WasPlayed}
 use Rattle.interface_play.specs.Source.{Places, Source, outputs_at, places_in}
 use Rattle.play_base.specs.View.{View, Everything, Keeps, NoneAppears}
@@ -80,25 +80,50 @@ stats_on : (u v w : View) (p : Places) (x : Setup) (records : List Record) → A
 stats_on u v w p x records s (inl h) = inl (front_on u v w p.stats [] s.stats h)
 stats_on u v w p x records s (inr h) = inr (h.0, h.1, texts_on v w p x records h.0 s h.2, front_on u v w p.stats _ s.stats h.3)
 
-pub fronts_on : (u v w : View) (p : Places) (seed : ℕ) (s : Source) → AllStay v w p → Fronts u v p seed s → Fronts u w p seed s
-fronts_on u v w p seed s k h records last reads is_last =
-    let y = h records last reads is_last in
+heads_on : (u v w : View) (p : Places) (s : Source) → AllStay v w p → OnlySays v w → HeadsFirst u v p s → HeadsFirst u w p s
+heads_on u v w p s k o (inl x) = inl ((x.0.0, k.departures.bytes ∙ x.0.1), (x.1.0, k.fates.bytes ∙ x.1.1))
+heads_on u v w p s k o (inr x) = inr (rows x.0, λ memory. few (x.1 memory))
+  where
+    rows : RowsWait u v p → RowsWait u w p
+    rows (inl y) = inl (front_on u v w p.fates [] k.fates y)
+    rows (inr y) = inr (y.0, k.departures.bytes ∙ y.1)
+
+    few : Untouched u v (number_of p.departures) ⊎ TookFirst u v p s → Untouched u w (number_of p.departures) ⊎ TookFirst u w p s
+    few (inl y) = inl (untouched_on u v w p.departures k.departures y)
+    few (inr y) = inr (record {
+      file = y.file;
+      fresh = y.fresh;
+      part = o.keeps.part y.file _ y.part;
+      took = record { rest = y.took.rest; left = o.keeps.left y.file _ y.part tt ∙ y.took.left; within = y.took.within };
+    })
+
+pub fronts_on : (u v w : View) (p : Places) (seed : ℕ) (s : Source) → OnlySays v w → Fronts u v p seed s → Fronts u w p seed s
+fronts_on u v w p seed s o h =
+    let k = stays_all Everything v w p o.keeps o.none in
     record {
-      history = y.history;
-      begun = y.begun;
-      departures = front_on u v w p.departures _ k.departures y.departures;
-      fates = front_on u v w p.fates _ k.fates y.fates;
-      stats = stats_on u v w p _ records k y.stats;
+      heads = heads_on u v w p s k o h.heads;
+      texts = λ records last reads is_last.
+          let y = h.texts records last reads is_last in
+          record {
+            history = y.history;
+            begun = y.begun;
+            departures = front_on u v w p.departures _ k.departures y.departures;
+            fates = front_on u v w p.fates _ k.fates y.fates;
+            stats = stats_on u v w p _ records k y.stats;
+          };
     }
 
 -- nothing was created
 pub unbegun_fronts : (u v : View) (p : Places) (seed : ℕ) (s : Source) → AllStay u v p → Fronts u v p seed s
-unbegun_fronts u v p seed s k records last reads is_last = record {
-  history = [];
-  begun = record { events = tt; in_time = tt };
-  departures = inl (k.departures.none, k.departures.bytes);
-  fates = inl (k.fates.none, k.fates.bytes);
-  stats = inl (inl (k.stats.none, k.stats.bytes));
+unbegun_fronts u v p seed s k = record {
+  heads = inr (inl (inl (k.fates.none, k.fates.bytes)), λ memory. inl k.departures.none);
+  texts = λ records last reads is_last. record {
+    history = [];
+    begun = record { events = tt; in_time = tt };
+    departures = inl (k.departures.none, k.departures.bytes);
+    fates = inl (k.fates.none, k.fates.bytes);
+    stats = inl (inl (k.stats.none, k.stats.bytes));
+  };
 }
 
 among_part : (a b : View) (es : List Place) (fs : List ℕ) (f p : ℕ) → AreOf a b es fs → IsAmong f fs → b.part f ≡ Some p → HasPart es p

@@ -1,5 +1,5 @@
 -- A play whose records were run, and whose texts were written whole: what its capture answers.
-use Rattle.std.proofs.Common.{◌≡◌, ◌++◌, ◌∙◌, ℕ, List, [], None, Some, ap, sym, subst}
+use Rattle.std.proofs.Common.{◌≡◌, ◌++◌, ◌∙◌, ℕ, List, [], None, Some, ap, sym, subst, inl}
 use Rattle.std.specs.Prelude.{IsSome, IsTrue}
 use Rattle.altq_model.specs.Arrivals.{Captured, bare_arrivals}
 use Rattle.altq_model.specs.Departures.{KeepsLength}
@@ -7,6 +7,7 @@ use Rattle.altq_model.specs.History.{DrawnWords, LabelledEvent, journal}
 use Rattle.altq_model.specs.Lawful.{AreHeld}
 use Rattle.altq_model.specs.Play.{due}
 use Rattle.capture_model.specs.Capture.{End, IsLast, Reads, Record, Step, outcome}
+use Rattle.capture_model.specs.Header.{capture_header}
 use Rattle.pcap_files.specs.declared.fault.CaptureFault.{CaptureFault}
 use Rattle.pcap_files.specs.declared.fault.CaptureFault.TheVariants as capture
 use Rattle.pcap_files.specs.declared.reader.Reader.{Reader}
@@ -19,6 +20,7 @@ use Rattle.play_base.proofs.HoldsLaws.{apart_kept}
 use Rattle.play_base.proofs.ViewLaws.{still_there}
 use Rattle.play_laws.specs.Events.{HasLaws}
 use Rattle.play_laws.proofs.SizeLemmas.{departed_within, reads_sized}
+use Rattle.play_text.specs.Texts.{fates_header}
 use Rattle.play_core.specs.Finished.{IsFinished}
 use Rattle.play_core.specs.Totals.{AreTotals}
 use Rattle.play_core.proofs.ReadLemmas.{finished}
@@ -35,13 +37,13 @@ use Rattle.play_loop.specs.declared.outputs.Outputs.{Outputs}
 use Rattle.play_loop.specs.Ending.{HasBroken, HasRun, IsClean, capture_fault}
 use Rattle.play_loop.specs.Kept.{OnlyWrote}
 use Rattle.play_loop.specs.KeptFates.{kept_fates}
-use Rattle.play_loop.specs.Outputs.{AreOpened, FrontsAre, IsBeforeStats, IsWriteCause}
-use Rattle.play_loop.specs.Played.{AreReady, Explains, Fronts, HoldTexts, OfArrivals}
+use Rattle.play_loop.specs.Outputs.{AreOpened, FrontsAre, IsBeforeStats, IsWriteCause, TextsAre}
+use Rattle.play_loop.specs.Played.{AreEmpty, AreReady, Explains, Fronts, HaveHeads, HeadsFirst, HoldTexts, OfArrivals}
 use Rattle.play_loop.specs.Reading.{CanRead, StartsOn}
 use Rattle.play_loop.specs.Setup.{IsSound, Setup, departures_of, fates_of}
 use Rattle.play_loop.specs.Underway.{IsUnderway, Moment}
 use Rattle.play_loop.proofs.KeptLemmas.{HasPlayedOn, by_cause, only_files}
-use Rattle.play_loop.proofs.OutputLemmas.{fronts_files, there_same}
+use Rattle.play_loop.proofs.OutputLemmas.{fronts_files, have_heads, texts_kept, there_same}
 use Rattle.play_loop.proofs.PlayLemmas.{Offered, cut_all, cut_later, explains_capture, found, fronts_first, hold_all, left_kept, offered_all, ready_left, whole_front}
 use Rattle.play_loop.proofs.TextLemmas.{fit_held}
 use Rattle.play_loop.proofs.TurnLemmas.{begun_of, from_setup, going_laws, on, promised, to_setup, under_countable}
@@ -55,17 +57,19 @@ fault_before capture.NoMemory = tt
 
 -- a write that failed
 pub broken_off : {x : Setup} {stood : List LabelledEvent → Type 0} (u v : View) (o : Opened) (f : PlayFault) → IsWriteCause o.departures o.fates u v f → Fronts x u v o
-    → IsBrokenOff x stood u v o f
-broken_off {x} {stood} u v o f h front = record {
+    → HeadsFirst u v o → IsBrokenOff x stood u v o f
+broken_off {x} {stood} u v o f h front heads = record {
   why = by_cause (λ q. Explains x stood u v o q) u v f h (λ y. y) (λ y. y) tt;
   front = front;
+  heads = heads;
   before_stats = by_cause IsBeforeStats u v f h (λ _. tt) (λ _. tt) tt;
 }
 
 -- or a record that was not read, before any was
 pub broken_at_start : {x : Setup} {stood : List LabelledEvent → Type 0} (u v : View) (o : Opened) (f : CaptureFault) → Offered x stood u v o f
-    → (f ≡ capture.Read → ReadFault u v o.arrivals) → Fronts x u v o → IsBrokenOff x stood u v o (capture_fault f)
-broken_at_start {x} {stood} u v o f h r front = record { why = explains_capture x stood u v o f h r; front = front; before_stats = fault_before f }
+    → (f ≡ capture.Read → ReadFault u v o.arrivals) → Fronts x u v o → HeadsFirst u v o → IsBrokenOff x stood u v o (capture_fault f)
+broken_at_start {x} {stood} u v o f h r front heads =
+    record { why = explains_capture x stood u v o f h r; front = front; heads = heads; before_stats = fault_before f }
 
 -- the arrivals are still there and apart from the outputs
 record StayReady (v : View) (o : Opened) : Type 0 where
@@ -90,6 +94,12 @@ pub started : {u v w : View} {o : Opened} (r : Reader) → AreReady u o → Only
     → ((rest : List ℕ) → v.left o.arrivals ≡ Some rest → Represents w r (o.first.now ++ rest) []) → OfArrivals u o (StartsOn w r)
 started r ready x y stands = λ t rest l. (y.1.keeps.tells ∙ x.keeps.tells ∙ t, stands rest (ready_left ready t x ∙ l))
 
+-- both heads were written before it
+pub heads_started : {u v w : View} (o : Opened) → AreReady u o → OnlyWrote o.departures o.fates u v
+    → (AreEmpty u o.departures o.fates → TextsAre v o.departures o.fates [] [] capture_header fates_header) → TookSome v w o.arrivals
+    → IsTrue u.tells → HaveHeads w o.departures o.fates
+heads_started o ready x wrote y t = have_heads (texts_kept (wrote ready.empty) y.1.keeps) (y.1.keeps.tells ∙ x.keeps.tells ∙ t)
+
 -- the writes at the end leave what the arrivals have left
 pub close_left : {u v w : View} {o : Opened} {p : Outputs} → AreReady u o → HasPlayedOn o u v → AreOpened p o → OnlyWrote p.departures p.fates v w → IsTrue u.tells
     → w.left o.arrivals ≡ v.left o.arrivals
@@ -111,6 +121,7 @@ pub record HasClosed (x : Setup) (told : List ℕ → Type 0) (m : Moment) (r : 
   pub left : IsTrue u.tells → v.left o.arrivals ≡ m.files.left o.arrivals
   pub read : e ≡ ending.Cut capture.Read → ReadFault u v o.arrivals
   pub clean : IsClean e → SameCounts u v
+  pub heads : IsTrue u.tells → HaveHeads v o.departures o.fates
 
 -- every event was made
 whole_play : {x : Setup} {m : Moment} {w : DrawnWords} {arrived : List Captured} {g : List LabelledEvent} → IsUnderway x m arrived w g
@@ -166,6 +177,7 @@ module _ {x : Setup} {told : List ℕ → Type 0} {m : Moment} {r : Reader} {w :
         decided = record { arrived = y.arrived; history = y.events; play = ends; told = y.under.written.was_told };
         countable = rw counts (under_countable y.under);
         no_fault = h.clean tt;
+        heads = h.heads;
       }
 
   answers_cut : (f : CaptureFault) → HasClosed x told m r w u v o (ending.Cut f) → IsBrokenOff x m.shown.represents u v o (capture_fault f)
@@ -182,6 +194,7 @@ module _ {x : Setup} {told : List ℕ → Type 0} {m : Moment} {r : Reader} {w :
             ))
             (λ q. h.read (ap {B = Ending} (λ (k : CaptureFault). ending.Cut k) q));
         front = closed_front h;
+        heads = λ t. inl (h.heads t);
         before_stats = fault_before f;
       }
 
@@ -219,6 +232,7 @@ module _ {x : Setup} {told : List ℕ → Type 0} {m : Moment} {r : Reader} {w :
               ),
             );
         front = closed_front h;
+        heads = λ t. inl (h.heads t);
         before_stats = tt;
       }
 

@@ -1,26 +1,48 @@
 -- What calls one after another leave as it was.
-use Rattle.std.proofs.Common.{◌≡◌, ◌≢◌, ◌++◌, ◌∙◌, ℕ, List, [], Ok, Err, refl, ap, sym, append_assoc}
-use Rattle.std.specs.Prelude.{IsErrOf, IsSome}
+use Rattle.std.proofs.Common.{◌≡◌, ◌≢◌, ◌++◌, ◌∙◌, ℕ, Bool, true, false, List, [], Some, Ok, Err, refl, ap, sym, append_assoc, append-nil}
+use Rattle.std.proofs.lemmas.Slice.Eq.{bytes_eq-Decides}
+use Rattle.std.specs.Prelude.{IsErrOf, IsSome, IsTrue, bytes_eq}
+use Rattle.capture_model.specs.Header.{capture_header}
 use Rattle.play_base.specs.declared.trouble.Trouble.{Trouble}
 use Rattle.play_base.specs.declared.trouble.Trouble.TheVariants as trouble
 use Rattle.play_base.specs.View.{View, Keeps, Everything, WriteFault, Wrote}
-use Rattle.play_base.proofs.ViewLaws.{keeps_fewer, keeps_refl, later_trans, part_of_there, rose_later, same_refl, same_trans as same_counts}
+use Rattle.play_base.proofs.ViewLaws.{keeps_fewer, keeps_refl, later_trans, part_of_there, rose_later, same_refl, same_trans as same_counts, still_there}
 use Rattle.pcap_files.specs.Ahead.{TookSome}
+use Rattle.play_text.specs.Texts.{fates_header}
 use Rattle.play_loop.specs.declared.fault.Opened.{Opened}
 use Rattle.play_loop.specs.declared.fault.Output.TheVariants as output
 use Rattle.play_loop.specs.declared.fault.PlayFault.{PlayFault}
 use Rattle.play_loop.specs.declared.fault.PlayFault.TheVariants as play
 use Rattle.play_loop.specs.declared.outputs.Outputs.{Outputs}
-use Rattle.play_loop.specs.Kept.{HasTailLeft, IsOther, OnlyWrote, OnlyPlayed}
+use Rattle.play_loop.specs.Kept.{Grows, HasTailLeft, IsOther, OnlyWrote, OnlyPlayed}
 use Rattle.play_loop.specs.Outputs.{AddsOnly, AreOpened, HasTexts, IsWriteCause, SameFiles, TextsAre, output_fault}
-use Rattle.play_loop.specs.Played.{AreReady}
+use Rattle.play_loop.specs.Played.{AreEmpty, AreReady, BeginsWith, HaveHeads}
 use Rattle.play_loop.proofs.OutputLemmas.{same_trans}
 
-pub wrote_first : {v w : View} {dep fat : ℕ} {xs : List ℕ} → Wrote v w dep xs → OnlyWrote dep fat v w
-wrote_first x = record { keeps = keeps_fewer _ _ _ _ _ _ (λ n h. h.0) (λ f h. h.0) x.keeps; none = x.none; said = x.said }
+-- what only grows
+grows_kept : {F : ℕ → Type 0} {v w : View} → Keeps Everything F v w → Grows v w
+grows_kept k t n bytes h = ([], k.bytes n tt ∙ h ∙ ap Some (sym (append-nil bytes)))
 
-wrote_second : {v w : View} {dep fat : ℕ} {xs : List ℕ} → Wrote v w fat xs → OnlyWrote dep fat v w
-wrote_second x = record { keeps = keeps_fewer _ _ _ _ _ _ (λ n h. h.1) (λ f h. h.1) x.keeps; none = x.none; said = x.said }
+pub grows_wrote : {v w : View} {file : ℕ} {xs : List ℕ} → Wrote v w file xs → Grows v w
+grows_wrote {v} {w} {file} {xs} x t n bytes h = by (bytes_eq n (v.name file)) refl
+  where
+    by : (b : Bool) → bytes_eq n (v.name file) ≡ b → (more : List ℕ) × (w.bytes n ≡ Some (bytes ++ more))
+    by true e =
+        let same : n ≡ v.name file = (bytes_eq-Decides n (v.name file)).0 e in
+        (xs, ap w.bytes same ∙ x.grown t bytes (ap v.bytes (sym same) ∙ h))
+    by false e = ([], x.keeps.bytes n (λ same. cc ((bytes_eq-Decides n (v.name file)).1 same)) ∙ h ∙ ap Some (sym (append-nil bytes)))
+
+grows_more : (u v w : View) → v.tells ≡ u.tells → Grows u v → Grows v w → Grows u w
+grows_more u v w same x y t n bytes h =
+    let a = x t n bytes h in
+    let b = y (same ∙ t) n (bytes ++ a.0) a.1 in
+    (a.0 ++ b.0, b.1 ∙ ap Some (append_assoc bytes a.0 b.0))
+
+pub wrote_first : {v w : View} {dep fat : ℕ} {xs : List ℕ} → Wrote v w dep xs → OnlyWrote dep fat v w
+wrote_first x = record { keeps = keeps_fewer _ _ _ _ _ _ (λ n h. h.0) (λ f h. h.0) x.keeps; grows = grows_wrote x; none = x.none; said = x.said }
+
+pub wrote_second : {v w : View} {dep fat : ℕ} {xs : List ℕ} → Wrote v w fat xs → OnlyWrote dep fat v w
+wrote_second x = record { keeps = keeps_fewer _ _ _ _ _ _ (λ n h. h.1) (λ f h. h.1) x.keeps; grows = grows_wrote x; none = x.none; said = x.said }
 
 -- a file that is there keeps its name
 named : (N : List ℕ → Type 0) (F : ℕ → Type 0) (u v : View) (f : ℕ) → Keeps N F u v → IsSome (u.part f) → v.name f ≡ u.name f
@@ -53,6 +75,7 @@ only_more {u} {v} {w} {dep} {fat} is_dep is_fat x y =
     let b : KeepsOf Everything dep fat v w = keeps_fewer _ _ _ _ _ _ (λ n h. h) (λ f h. h.1) y.keeps in
     record {
       keeps = keeps_fewer _ _ _ _ _ _ (λ n h. h) (λ f h. (tt, h)) (keeps_more Everything u v w dep fat is_dep is_fat a b);
+      grows = grows_more u v w x.keeps.tells x.grows y.grows;
       none = λ f h. y.none f (x.none f h);
       said = y.said ∙ x.said;
     }
@@ -99,7 +122,7 @@ fates_later {dep} {fat} {v = v} w t f x e h = cause_since w f x.keeps refl refl 
 pub adds_nothing : {A : Type 0} (v : View) (o : Outputs) (a : A) → AddsOnly v v o o (Ok a)
 adds_nothing v o a = record {
   same = record { departures = refl; fates = refl };
-  others = record { keeps = keeps_refl _ _ v; none = λ f h. h; said = refl };
+  others = record { keeps = keeps_refl _ _ v; grows = grows_kept (keeps_refl Everything Everything v); none = λ f h. h; said = refl };
   no_fault = same_refl v;
   why = tt;
 }
@@ -121,11 +144,18 @@ module _ {A : Type 0} {u v w : View} {a b : Outputs} {x : A} {ds ts : List ℕ} 
 
 -- reads of the arrivals among the writes
 pub played_nothing : (v : View) (arr dep fat : ℕ) → OnlyPlayed arr dep fat v v
-played_nothing v arr dep fat = record { keeps = keeps_refl _ _ v; took = λ p at h all l. ([], all, refl, l); none = λ f h. h; said = refl }
+played_nothing v arr dep fat = record {
+  keeps = keeps_refl _ _ v;
+  grows = grows_kept (keeps_refl Everything Everything v);
+  took = λ p at h all l. ([], all, refl, l);
+  none = λ f h. h;
+  said = refl;
+}
 
 played_wrote : {v w : View} (arr : ℕ) {dep fat : ℕ} → OnlyWrote dep fat v w → OnlyPlayed arr dep fat v w
 played_wrote arr x = record {
   keeps = keeps_fewer _ _ _ _ _ _ (λ n h. h) (λ f h. h.1) x.keeps;
+  grows = x.grows;
   took = λ p at h all l. ([], all, refl, x.keeps.left arr p at h ∙ l);
   none = x.none;
   said = x.said;
@@ -134,6 +164,7 @@ played_wrote arr x = record {
 played_took : {v w : View} {arr : ℕ} (dep fat : ℕ) → TookSome v w arr → OnlyPlayed arr dep fat v w
 played_took dep fat x = record {
   keeps = keeps_fewer _ _ _ _ _ _ (λ n h. tt) (λ f h. h.0) x.1.keeps;
+  grows = grows_kept x.1.keeps;
   took = λ p at h all l. (let t = x.1.left all l in (x.0, t.0, t.1, t.2));
   none = x.1.none;
   said = x.1.said;
@@ -149,6 +180,7 @@ tail_trans u v w file x y = λ all l.
 played_more : {u v w : View} {arr dep fat : ℕ} → IsSome (u.part dep) → IsSome (u.part fat) → OnlyPlayed arr dep fat u v → OnlyPlayed arr dep fat v w → OnlyPlayed arr dep fat u w
 played_more {u} {v} {w} {arr} {dep} {fat} is_dep is_fat x y = record {
   keeps = keeps_more (λ f. f ≢ arr) u v w dep fat is_dep is_fat x.keeps y.keeps;
+  grows = grows_more u v w x.keeps.tells x.grows y.grows;
   took = λ p at h. tail_trans u v w arr (x.took p at h) (y.took p (x.keeps.part arr p at)
       (other_later u v dep fat _ _ (named _ _ u v dep x.keeps is_dep) (named _ _ u v fat x.keeps is_fat) (x.keeps.name arr p at) h));
   none = λ f h. y.none f (x.none f h);
@@ -183,3 +215,18 @@ close_played o p r a x y = played_more r.empty.departures.there r.empty.fates.th
 
 pub opened_same : {o : Opened} {p q : Outputs} → AreOpened p o → SameFiles p q → AreOpened q o
 opened_same a s = record { departures = s.departures ∙ a.departures; fates = s.fates ∙ a.fates }
+
+-- the heads stay where every name only grows
+begins_on : {N : List ℕ → Type 0} {F : ℕ → Type 0} (v w : View) (file : ℕ) (front : List ℕ) → IsSome (v.part file) → Keeps N F v w → Grows v w → IsTrue v.tells
+    → BeginsWith v file front → BeginsWith w file front
+begins_on v w file front there k grows t h =
+    let more = grows t (v.name file) (front ++ h.0) h.1 in
+    (h.0 ++ more.0, ap w.bytes (named _ _ v w file k there) ∙ more.1 ∙ ap Some (append_assoc front h.0 more.0))
+
+pub heads_on : {N M : List ℕ → Type 0} {F G : ℕ → Type 0} (u v w : View) (dep fat : ℕ) → AreEmpty u dep fat → Keeps N F u v → Keeps M G v w → Grows v w → IsTrue u.tells
+    → HaveHeads v dep fat → HaveHeads w dep fat
+heads_on u v w dep fat r k m grows t h =
+    let told : IsTrue v.tells = k.tells ∙ t in (
+      begins_on v w dep capture_header (still_there _ _ u v dep k r.departures.there) m grows told h.0,
+      begins_on v w fat fates_header (still_there _ _ u v fat k r.fates.there) m grows told h.1,
+    )

@@ -1,20 +1,20 @@
 -- What writes to the two output files leave of both texts.
-use Rattle.std.proofs.Common.{◌≡◌, ◌++◌, ◌∙◌, ℕ, List, [], refl}
+use Rattle.std.proofs.Common.{◌≡◌, ◌++◌, ◌∙◌, ℕ, List, [], Some, refl, ap, sym, inl, inr}
 use Rattle.std.proofs.lemmas.List.{append-nil}
-use Rattle.std.specs.Prelude.{IsSome, Result}
+use Rattle.std.specs.Prelude.{IsSome, IsTrue, Result}
 use Rattle.std.specs.declared.option.Option.{Option}
 use Rattle.capture_model.specs.Header.{capture_header}
 use Rattle.play_base.specs.View.{View, Everything, Keeps, Wrote, WroteFront}
-use Rattle.play_base.proofs.HoldsLaws.{apart_kept, apart_sym}
+use Rattle.play_base.proofs.HoldsLaws.{apart_kept, apart_sym, holds_beside}
 use Rattle.play_text.specs.Texts.{fates_header}
-use Rattle.gathered_writes.specs.Gathered.{Grew, Stopped}
-use Rattle.gathered_writes.proofs.GatheredLaws.{text_grew, text_stopped, text_beside, text_front, text_kept, text_of_held, text_same, front_longer, front_same}
+use Rattle.gathered_writes.specs.Gathered.{Grew, HasText, Stopped}
+use Rattle.gathered_writes.proofs.GatheredLaws.{text_grew, text_stopped, text_beside, text_front, text_kept, text_of_held, text_same, text_whole, front_longer, front_same}
 use Rattle.gathered_writes.proofs.GatherLemmas.{grew_whole, stopped_at_front, stopped_whole}
 use Rattle.play_loop.specs.declared.outputs.Outputs.{Outputs}
 use Rattle.play_loop.specs.declared.spare.Spare.{Spare}
 use Rattle.play_loop.specs.declared.fault.PlayFault.{PlayFault}
 use Rattle.play_loop.specs.Outputs.{AddsOnly, TextsAre, FrontsAre, SameFiles}
-use Rattle.play_loop.specs.Played.{AreEmpty}
+use Rattle.play_loop.specs.Played.{AreEmpty, BeginsWith, HaveHeads, RowsWait}
 
 module _ {u : View} {dep fat : ℕ} {recs rows ds ts : List ℕ} (h : TextsAre u dep fat recs rows ds ts) where
   -- where one of them was given more
@@ -116,3 +116,20 @@ heads_second {v = v} {w} {fat = fat} e f h x y =
 pub heads_whole : {u v w : View} {dep fat : ℕ} {bytes row : List ℕ} → bytes ≡ capture_header → row ≡ fates_header → AreEmpty u dep fat
     → Wrote u v dep bytes → Wrote v w fat row → TextsAre w dep fat [] [] capture_header fates_header
 heads_whole {v = v} {w} {fat = fat} e f h x y = let z : Wrote v w fat fates_header = rw (← f) y in texts_rowed (head_written e h x) (grew_whole _ _ _ fates_header z)
+
+begins : {v : View} {file : ℕ} {text : List ℕ} → HasText v file [] text → IsTrue v.tells → BeginsWith v file text
+begins h t = ([], (text_whole _ _ _ h).bytes t ∙ ap Some (sym (append-nil _)))
+
+pub have_heads : {v : View} {dep fat : ℕ} → TextsAre v dep fat [] [] capture_header fates_header → IsTrue v.tells → HaveHeads v dep fat
+have_heads h t = (begins h.departures t, begins h.fates t)
+
+-- where that of the departures was not written whole, no row was; where that of the fates was not, that of the departures was
+pub rows_first : {u v : View} {dep fat : ℕ} {bytes : List ℕ} → AreEmpty u dep fat → WroteFront u v dep bytes → IsTrue u.tells → RowsWait v dep fat
+rows_first {u} {v} {dep} {fat} h x t =
+    inl ((holds_beside u v fat dep [] _ h.fates (apart_sym u dep fat h.apart) x.1).bytes (x.1.keeps.tells ∙ t))
+
+pub rows_second : {u v w : View} {dep fat : ℕ} {bytes row : List ℕ} → bytes ≡ capture_header → AreEmpty u dep fat → Wrote u v dep bytes
+    → WroteFront v w fat row → IsTrue u.tells → RowsWait w dep fat
+rows_second {dep = dep} {fat} e h x y t =
+    let head = head_written e h x in
+    inr (begins (text_beside _ _ dep fat _ _ _ head.departures head.apart y.1) (y.1.keeps.tells ∙ x.keeps.tells ∙ t))

@@ -36,7 +36,7 @@ use Rattle.play_loop.specs.Kept.{OnlyWrote}
 use Rattle.gathered_writes.specs.Gathered.{HoldsFront}
 use Rattle.play_loop.specs.declared.outputs.Outputs.{Outputs}
 use Rattle.play_loop.specs.Outputs.{AreOpened, FrontsAre, TextsAre}
-use Rattle.play_loop.specs.Played.{AreReady, Explains, Fronts, HasOffered, HasStopped, HoldFronts, HoldTexts, IsStanding, OfArrivals, Streams}
+use Rattle.play_loop.specs.Played.{AreReady, Explains, Fronts, HasOffered, HeadsFirst, HasStopped, HoldFronts, HoldTexts, IsStanding, OfArrivals, Streams}
 use Rattle.play_loop.specs.Setup.{IsSound, Setup, arrivals_in, departures_of, fates_of}
 use Rattle.play_loop.specs.Underway.{HasGiven}
 use Rattle.gathered_writes.proofs.GatheredLaws.{front_same, text_whole}
@@ -63,6 +63,9 @@ stopped_empty x v o records h = record {
     fates = record { written = []; rest = _; holds = h.empty.fates; split = refl };
   };
 }
+
+pub no_heads : (v : View) (o : Opened) → AreReady v o → HeadsFirst v v o
+no_heads v o h t = inr (inl (h.empty.fates.bytes t), refl)
 
 rise_front : (t : ℕ) (xs ys : List Arrival) → RiseFrom t (xs ++ ys) → RiseFrom t xs
 rise_front t [] ys r = tt

@@ -1,5 +1,5 @@
 -- What the play of a capture answers, before its statistics are written.
-use Rattle.std.specs.Prelude.{List, Result, Ok, Err}
+use Rattle.std.specs.Prelude.{List, Result, Ok, Err, IsTrue}
 use Rattle.altq_model.specs.History.{LabelledEvent}
 use Rattle.play_base.specs.View.{View, SameCounts}
 use Rattle.play_loop.specs.declared.outputs.Tally.{Tally}
@@ -13,7 +13,7 @@ use Rattle.play_loop.specs.declared.kept.KeptFate.{KeptFate}
 use Rattle.class_counts.specs.Counting.{AreCountable}
 use Rattle.play_loop.specs.Ending.{capture_fault}
 use Rattle.play_loop.specs.Outputs.{IsBeforeStats}
-use Rattle.play_loop.specs.Played.{Explains, Fronts, Writes}
+use Rattle.play_loop.specs.Played.{Explains, Fronts, HaveHeads, HeadsFirst, Writes}
 use Rattle.play_loop.specs.Setup.{Setup}
 use Rattle.play_loop.specs.Told.{HasDecided}
 
@@ -29,11 +29,13 @@ pub record IsWhole (x : Setup) (stood : List LabelledEvent → Type 0) (told : L
   pub decided : HasDecided x told t.totals
   pub countable : AreCountable x.names t.counts.items
   pub no_fault : SameCounts old new
+  pub heads : IsTrue old.tells → HaveHeads new o.departures o.fates
 
--- why it broke off, and the fronts that the files hold then
+-- why it broke off, and what the files hold then
 pub record IsBrokenOff (x : Setup) (stood : List LabelledEvent → Type 0) (old new : View) (o : Opened) (fault : PlayFault) : Type 0 where
   pub why : Explains x stood old new o fault
   pub front : Fronts x old new o
+  pub heads : HeadsFirst old new o
   pub before_stats : IsBeforeStats fault
 
 abbrev pub IsAnswer : Setup → (List LabelledEvent → Type 0) → (List KeptFate → Type 0) → (old new : View) → Opened → Result Tally PlayFault → Type 0

@@ -1,5 +1,5 @@
 -- What a play leaves as it was.
-use Rattle.std.specs.Prelude.{◌≡◌, ◌≢◌, ◌++◌, ℕ, List, Some}
+use Rattle.std.specs.Prelude.{◌≡◌, ◌≢◌, ◌++◌, ℕ, List, Some, IsTrue}
 use Rattle.play_base.specs.View.{View, Keeps, NoneAppears}
 use Rattle.play_loop.specs.declared.fault.Opened.{Opened}
 
@@ -15,9 +15,14 @@ KeepsBut dep fat old new = Keeps (IsOther old dep fat) (λ f. IsOther old dep fa
 abbrev pub KeepsBeside : (arr dep fat : ℕ) → View → View → Type 0
 KeepsBeside arr dep fat old new = Keeps (IsOther old dep fat) (λ f. (f ≢ arr) × IsOther old dep fat (old.name f)) old new
 
+-- where the object tells, every name that is there holds what it held, and maybe more behind it
+abbrev pub Grows : View → View → Type 0
+Grows old new = IsTrue old.tells → (n bytes : List ℕ) → old.bytes n ≡ Some bytes → (more : List ℕ) × (new.bytes n ≡ Some (bytes ++ more))
+
 -- nothing changed but what writes to the two files change
 pub record OnlyWrote (dep fat : ℕ) (old new : View) : Type 0 where
   pub keeps : KeepsBut dep fat old new
+  pub grows : Grows old new
   pub none : NoneAppears old new
   pub said : new.said ≡ old.said
 
@@ -32,6 +37,7 @@ TookBeside arr dep fat old new = (p : ℕ) → old.part arr ≡ Some p → IsOth
 -- nothing changed but what writes to the two files and reads of one change
 pub record OnlyPlayed (arr dep fat : ℕ) (old new : View) : Type 0 where
   pub keeps : KeepsBeside arr dep fat old new
+  pub grows : Grows old new
   pub took : TookBeside arr dep fat old new
   pub none : NoneAppears old new
   pub said : new.said ≡ old.said

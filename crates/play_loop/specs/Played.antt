@@ -5,9 +5,11 @@ use Rattle.altq_model.specs.Departures.{departed}
 use Rattle.altq_model.specs.History.{Event, Offered, Sent, LabelledEvent, unlabelled, offered, journal}
 use Rattle.altq_model.specs.Lawful.{greatest}
 use Rattle.capture_model.specs.Capture.{Record, Step, End, Fault, Limit, Reads, IsCapture, IsLast, place_after}
+use Rattle.capture_model.specs.Header.{capture_header}
 use Rattle.pcap_files.specs.Reading.{AreAllTaken}
 use Rattle.play_base.specs.View.{View, ReadFault, WriteFault}
 use Rattle.play_base.specs.Holds.{HoldsAt, Apart}
+use Rattle.play_text.specs.Texts.{fates_header}
 use Rattle.play_core.specs.declared.totals.Totals.{Totals}
 use Rattle.play_core.specs.Ended.{IsBegun}
 use Rattle.play_core.specs.Finished.{EndsWithOffer, IsFinished, IsStopped}
@@ -41,6 +43,24 @@ pub record AreReady (v : View) (o : Opened) : Type 0 where
   pub stats : HoldsAt v o.stats []
   pub departures_from_stats : Apart v o.departures o.stats
   pub fates_from_stats : Apart v o.fates o.stats
+
+-- the bytes under the file's name begin with these
+abbrev pub BeginsWith : View → (file : ℕ) → (front : List ℕ) → Type 0
+BeginsWith v file front = (more : List ℕ) × (v.bytes (v.name file) ≡ Some (front ++ more))
+
+-- departures and fates hold their heads, and maybe more
+abbrev pub HaveHeads : View → (dep fat : ℕ) → Type 0
+HaveHeads v dep fat = BeginsWith v dep capture_header × BeginsWith v fat fates_header
+
+-- the fates hold nothing, or the departures hold their whole head
+abbrev pub RowsWait : View → (dep fat : ℕ) → Type 0
+RowsWait v dep fat = (v.bytes (v.name fat) ≡ Some []) ⊎ BeginsWith v dep capture_header
+
+-- THE HEADS COME FIRST, where the object tells: unless both files hold theirs nothing more was taken of the arrivals, and the fates hold
+-- nothing unless the departures hold all of theirs
+abbrev pub HeadsFirst : View → View → Opened → Type 0
+HeadsFirst old new o =
+    IsTrue old.tells → HaveHeads new o.departures o.fates ⊎ (RowsWait new o.departures o.fates × (new.left o.arrivals ≡ old.left o.arrivals))
 
 -- the files hold the departures and the fates of this history
 pub record HoldTexts (v : View) (o : Opened) (x : Setup) (arrived : List Captured) (g : List LabelledEvent) : Type 0 where

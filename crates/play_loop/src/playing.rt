@@ -1,5 +1,5 @@
 // The play of an interface, from a capture to departures and fates.
-ghost use Rattle.std.specs.Prelude.{◌≡◌, ◌≤◌, ◌^◌, [], ◌++◌, ℕ, List, IsSome, IfOk, IfErr, OnOk, OnErr};
+ghost use Rattle.std.specs.Prelude.{◌≡◌, ◌≤◌, ◌^◌, [], ◌++◌, ℕ, List, IsSome, IsTrue, IfOk, IfErr, OnOk, OnErr};
 ghost use Rattle.play_text.specs.Texts.{fates_header};
 ghost use Rattle.capture_model.specs.Header.{capture_header};
 ghost use Rattle.altq_model.specs.Lawful.{IsOneOf};
@@ -12,7 +12,7 @@ ghost use Rattle.class_counts.specs.Counting.{HasCounted};
 ghost use Rattle.play_loop.specs.Ending.{HasBroken, HasRun, IsClean};
 ghost use Rattle.play_loop.specs.Kept.{KeepsPlayed, OnlyPlayed, OnlyWrote, TookOnly};
 ghost use Rattle.play_loop.specs.Outputs.{AreOpened, FrontsAre, IsWriteCause, SameFiles, TextsAre};
-ghost use Rattle.play_loop.specs.Played.{AreEmpty, AreReady, Explains, Fronts, LeavesStats, Plays};
+ghost use Rattle.play_loop.specs.Played.{AreEmpty, AreReady, Explains, Fronts, HeadsFirst, LeavesStats, Plays, RowsWait};
 ghost use Rattle.play_loop.specs.Reading.{CanRead, StartsOn};
 ghost use Rattle.play_loop.specs.Setup.{IsSound, setup_of};
 ghost use Rattle.play_loop.specs.Told.{HasDecided, Tells};
@@ -46,6 +46,8 @@ fn write_heads<F: Files>(files: &mut F, departures: u32, fates: u32) -> Result<(
     ensures no_fault { OnOk result (SameCounts (F.view files.old) (F.view files.new)) }
     ensures stopped { OnErr result (AreEmpty (F.view files.old) departures fates →
         FrontsAre (F.view files.new) departures fates capture_header fates_header) }
+    ensures rows { OnErr result (AreEmpty (F.view files.old) departures fates → IsTrue (F.view files.old).tells →
+        RowsWait (F.view files.new) departures fates) }
     ensures others { OnlyWrote departures fates (F.view files.old) (F.view files.new) }
     ensures why { IfErr result (IsWriteCause departures fates (F.view files.old) (F.view files.new)) }
 {
@@ -69,10 +71,12 @@ fn write_heads<F: Files>(files: &mut F, departures: u32, fates: u32) -> Result<(
 /// What each error means, and when it comes, `PlayFault` says. After a fault or a limit of the capture, departures and fates hold
 /// exactly what was decided up to the offer of its last complete record, and after a sending that would end too late exactly what was
 /// decided before it; after any other error fronts of their texts. The statistics hold nothing then, but after a failed write of them,
-/// or lack of memory, maybe a front. Holds one packet besides those that wait, a piece of 65,536 bytes of the capture, what is
-/// gathered, and the counts of each class: nothing that grows with the capture. A packet takes the memory of one that left, so at most
-/// 2,048 bytes, or twice its own; that of up to 65 that left is kept for those to come. Costs a few steps and the bytes of each packet,
-/// and what the discipline and `classify` cost.
+/// or lack of memory, maybe a front. Whatever the error, the fates hold nothing unless the departures hold their whole header, and
+/// nothing more was taken of the arrivals unless both headers stand.
+///
+/// Holds one packet besides those that wait, a piece of 65,536 bytes of the capture, what is gathered, and the counts of each class:
+/// nothing that grows with the capture. A packet takes the memory of one that left, so at most 2,048 bytes, or twice its own; that of up
+/// to 65 that left is kept for those to come. Costs a few steps and the bytes of each packet, and what the discipline and `classify` cost.
 ///
 /// Each decision is told to a keeper as soon as its texts are added. After Ok it was told the journal, and each packet's arrival with it;
 /// after another answer nothing is said of what it was told. The discipline stays of its kind.
@@ -114,6 +118,7 @@ pub fn play_told<D: Discipline, C: Classify, F: Files, K: Keeper>(
     ensures front { OnErr result (Fronts (setup_of (D.view discipline.old).policy (C.placed classify.now)
         (C.dressed classify.now) names.now rate words.old.seed)
         (F.view files.old) (F.view files.new) opened.now) }
+    ensures heads { OnErr result (HeadsFirst (F.view files.old) (F.view files.new) opened.now) }
     ensures stats { IfErr result (LeavesStats (setup_of (D.view discipline.old).policy (C.placed classify.now)
         (C.dressed classify.now) names.now rate words.old.seed)
         (F.view files.old) (F.view files.new) opened.now) }

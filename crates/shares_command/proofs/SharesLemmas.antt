@@ -1,5 +1,5 @@
 -- How `shares` ends: as its play fails, or behind it.
-use Rattle.std.proofs.Common.{◌≡◌, ◌++◌, ◌∙◌, ◌⊎◌, ◌≤◌, ℕ, true, List, [], ◌∷◌, length, arith, Some, Ok, Err, IsTrue, ap, sym, refl, subst, inl, inr}
+use Rattle.std.proofs.Common.{◌≡◌, ◌++◌, ◌∙◌, ◌⊎◌, ◌≤◌, ℕ, true, List, [], ◌∷◌, length, Some, Ok, Err, IsTrue, ap, sym, refl, subst, inl, inr}
 use Rattle.altq_model.specs.History.{Event, LabelledEvent, unlabelled}
 use Rattle.command_form.specs.Form.{AreReadyWhereTold, InputsFirst, unready_failure}
 use Rattle.command_form.specs.Names.{Names}
@@ -87,7 +87,7 @@ may_play u a n seed p r x b = record {
   separate = subst AreSeparate (sym b.places) (separate_of n b.distinct);
   there = subst P (sym b.places) (begins_there u a n seed p r x b);
   named = λ t. subst Q (sym b.places) (ap a.name b.file ∙ b.had.came.are.1.0.name (sym b.come.keeps.tells ∙ t));
-  few = subst R (sym b.given) (λ e. let h = b.had.few e in omega (arith, h));
+  few = subst R (sym b.given) b.had.few;
 }
   where
     P : Places → Type 0
@@ -97,7 +97,7 @@ may_play u a n seed p r x b = record {
     Q w = a.name p.file ≡ w.arrivals.name
 
     R : Given → Type 0
-    R y = y.rest ≡ true → length y.front.items ≤ 24
+    R y = y.rest ≡ true → length y.front.items ≤ 4
 
 -- THE PLAY IS DONE, with this text
 pub record Measured (u a v : View) (n : Names) (seed : ℕ) (p : Play) (r : ReadConf) (x : Arrivals) (text : List ℕ) : Type 0 where
@@ -132,7 +132,7 @@ played_after u v w n seed o h = record {
 
 leaves_after : (u v w : View) (n : Names) (seed : ℕ) → OnlySays v w → PlayLeaves u v n seed → PlayLeaves u w n seed
 leaves_after u v w n seed o h t i g ready is =
-    fronts_on u v w (sole_of n) seed (source_by i.configured.found g) (stays_all Everything v w (sole_of n) o.keeps o.none) (h t i g ready is)
+    fronts_on u v w (sole_of n) seed (source_by i.configured.found g) o (h t i g ready is)
 
 -- behind it the files are those of the plan, the inputs came first, and the outputs hold fronts
 record Stands (u w : View) (n : Names) (seed : ℕ) : Type 0 where

@@ -29,7 +29,7 @@ pub record MayPlay (v : View) (p : Play) : Type 0 where
   pub separate : AreSeparate (places_in p)
   pub there : v.part p.file ≡ Some (number_of (places_in p).arrivals)
   pub named : IsTrue v.tells → v.name p.file ≡ p.arrivals.name.now
-  pub few : p.given.now.rest ≡ true → length p.given.now.front.items ≤ 24
+  pub few : p.given.now.rest ≡ true → length p.given.now.front.items ≤ 4
 
 -- nothing is said of what was kept
 abbrev pub Unkept : List KeptFate → Type 0

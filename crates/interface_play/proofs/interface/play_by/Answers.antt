@@ -3,14 +3,14 @@ use Rattle.std.proofs.Common.{ap, inl}
 use Rattle.altq_model.specs.History.{DrawnWords}
 use Rattle.interface_play.proofs.Cited.{is_interface}
 use Rattle.interface_play.proofs.SetupLemmas.{came_built, held_of, named_of, setup_is}
-use Rattle.play_loop.proofs.PlayLemmas.{stopped_empty}
+use Rattle.play_loop.proofs.PlayLemmas.{no_heads, stopped_empty}
 use Rattle.interface_play.proofs.interface.play_by.Goals as goal
 
 pub returns-in_default-clause-came : goal.returns-in_default-clause-came
-returns-in_default-clause-came g c = (tt, λ t bytes l records last r s. stopped_empty _ _ _ records c.requires.ready, inl c.requires.ready.stats)
+returns-in_default-clause-came g c = (tt, λ t bytes l records last r s. stopped_empty _ _ _ records c.requires.ready, inl c.requires.ready.stats, no_heads _ _ c.requires.ready)
 
 pub returns-in_default-names_of-clause-came : goal.returns-in_default-names_of-clause-came
-returns-in_default-names_of-clause-came g c = (tt, λ t bytes l records last r s. stopped_empty _ _ _ records c.requires.ready, inl c.requires.ready.stats)
+returns-in_default-names_of-clause-came g c = (tt, λ t bytes l records last r s. stopped_empty _ _ _ records c.requires.ready, inl c.requires.ready.stats, no_heads _ _ c.requires.ready)
 
 pub names_of-requires : goal.names_of-requires
 names_of-requires g c = is_interface c.laws_hold.ensures c.args.interface.now c.requires.configured
@@ -40,4 +40,4 @@ returns-clause-came g c =
       named = c.in-Ok-names_of.ensures;
       seed_is = ap (λ (w : DrawnWords). w.seed) c.new-words.ensures;
     }))
-    y.told y.decided y.why y.front y.stats
+    y.told y.decided y.why y.front y.stats y.heads

@@ -1,5 +1,5 @@
 -- Its configuration, its arrivals, its play and its summary, each of which may end it.
-use Rattle.std.proofs.Common.{◌≡◌, ◌≤◌, ◌∙◌, ℕ, true, length, arith, List, [], ◌∷◌, Option, Some, Ok, Err, IsTrue, ap, sym, subst}
+use Rattle.std.proofs.Common.{◌≡◌, ◌≤◌, ◌∙◌, ℕ, true, length, List, [], ◌∷◌, Option, Some, Ok, Err, IsTrue, ap, sym, subst}
 use Rattle.arrivals_front.specs.declared.given.Given.{Given}
 use Rattle.command_form.specs.Names.{names_read}
 use Rattle.conf_tree.specs.declared.interface.Interface.{Interface}
@@ -60,8 +60,8 @@ play_source-requires-clause-configured g c =
 
 pub play_source-requires-clause-few : goal.play_source-requires-clause-few
 play_source-requires-clause-few g c =
-    let P : Given → Type 0 = λ y. y.rest ≡ true → length y.front.items ≤ 24 in
-    subst P (sym c.play_of-play.ensures.given) (λ e. let h = c.in-Ok-open_arrivals.ensures.few in omega (arith, h))
+    let P : Given → Type 0 = λ y. y.rest ≡ true → length y.front.items ≤ 4 in
+    subst P (sym c.play_of-play.ensures.given) (λ e. c.in-Ok-open_arrivals.ensures.few)
 
 pub returns-in-Err-play_source : goal.returns-in-Err-play_source
 returns-in-Err-play_source g c =

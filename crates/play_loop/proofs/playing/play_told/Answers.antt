@@ -1,5 +1,5 @@
 -- The play ends before its capture, or with it, and then the statistics are written.
-use Rattle.std.proofs.Common.{◌∙◌, ℕ, List, [], refl, subst, arith}
+use Rattle.std.proofs.Common.{◌∙◌, ℕ, List, [], inl, refl, subst, arith}
 use Rattle.altq_model.specs.declared.Counts.{Counts}
 use Rattle.play_base.specs.View.{Wrote, WroteFront}
 use Rattle.play_base.proofs.ViewLaws.{same_trans}
@@ -7,7 +7,8 @@ use Rattle.play_text.specs.Names.{NameList}
 use Rattle.play_text.specs.Statistics.{stats_of}
 use Rattle.play_loop.specs.Setup.{Setup, setup_of}
 use Rattle.play_loop.specs.Told.{Tells}
-use Rattle.play_loop.proofs.PlayLemmas.{stopped_empty}
+use Rattle.play_loop.proofs.KeptLemmas.{grows_wrote, heads_on}
+use Rattle.play_loop.proofs.PlayLemmas.{no_heads, stopped_empty}
 use Rattle.play_loop.proofs.StatsLemmas.{explains_stats, fronts_whole, keeps_played, keeps_written, leaves_none, leaves_stats, no_stats, plays_told, tells_whole, took_played, took_written}
 use Rattle.play_loop.proofs.playing.play_told.Given.{Over}
 use Rattle.play_loop.proofs.playing.play_told.Goals.{In-Ok-write_stats}
@@ -106,3 +107,15 @@ returns-in-Err-clause-why g c = c.in-Err.ensures.answer.why
 
 pub returns-in-Err-clause-front : goal.returns-in-Err-clause-front
 returns-in-Err-clause-front g c = c.in-Err.ensures.answer.front
+
+pub returns-in_default-clause-heads : goal.returns-in_default-clause-heads
+returns-in_default-clause-heads g c = no_heads _ c.args.opened.now c.requires.ready
+
+pub returns-in-Err-clause-heads : goal.returns-in-Err-clause-heads
+returns-in-Err-clause-heads g c = c.in-Err.ensures.answer.heads
+
+pub returns-clause-heads : goal.returns-clause-heads
+returns-clause-heads g c = λ t.
+    let y = c.in-Ok-play_capture.ensures in
+    let x = c.in-Err-write_stats.ensures.front.1 in
+    inl (heads_on _ _ _ c.args.opened.now.departures c.args.opened.now.fates c.requires.ready.empty y.others.keeps x.keeps (grows_wrote x) t (y.answer.heads t))

@@ -1,6 +1,6 @@
 use Rattle.gathered_writes.proofs.GatheredLaws.{text_whole}
 use Rattle.play_base.proofs.ViewLaws.{same_trans}
-use Rattle.play_loop.proofs.KeptLemmas.{fates_later, wrote_both}
+use Rattle.play_loop.proofs.KeptLemmas.{fates_later, wrote_both, wrote_first}
 use Rattle.play_loop.proofs.OutputLemmas.{flushed_first, flushed_second, flushed_whole}
 use Rattle.play_loop.proofs.writing.finish.Goals as goal
 
@@ -27,3 +27,6 @@ returns-in-Ok-flush_rows-clause-no_fault g c = same_trans _ _ _ c.in-Ok.ensures.
 
 pub returns-in-Ok-flush_rows-clause-others : goal.returns-in-Ok-flush_rows-clause-others
 returns-in-Ok-flush_rows-clause-others g c = wrote_both c.requires.departures c.requires.fates c.in-Ok.ensures.wrote c.in-Ok-flush_rows.ensures.wrote
+
+pub returns-in-Err-clause-others : goal.returns-in-Err-clause-others
+returns-in-Err-clause-others g c = wrote_first c.in-Err.ensures.front.1

@@ -1,5 +1,5 @@
 -- A packet that was sent adds its record to the departures, and then its row to the fates.
-use Rattle.std.proofs.Common.{◌∙◌, ℕ, List, ap, refl, subst}
+use Rattle.std.proofs.Common.{◌∙◌, ℕ, List, ap, refl, rules, subst}
 use Rattle.altq_model.specs.declared.Fate.TheVariants as fate
 use Rattle.capture_model.specs.Written.{record_text}
 use Rattle.play_core.specs.declared.turn.Departure.{Departure}
@@ -49,4 +49,12 @@ returns-in-Err-gather_row-clause-only g c = record {
   no_fault = tt;
   why = cause_since (g.F.Files.view c.gather_row.new.files) c.output_fault-in-Err-gather_row.result (wrote_first {fat = c.args.outputs.now.fates} c.in-Ok.ensures.grew.wrote).keeps refl refl
       (fates_cause c.args.outputs.now.departures c.args.outputs.now.fates (g.F.Files.view c.gather_record.new.files) (g.F.Files.view c.gather_row.new.files) c.in-Err-gather_row.trouble c.output_fault-in-Err-gather_row.result c.output_fault-in-Err-gather_row.ensures c.in-Err-gather_row.ensures.failed);
+}
+
+pub returns-in-Err-clause-only : goal.returns-in-Err-clause-only
+returns-in-Err-clause-only g c = record {
+  same = record { departures = refl; fates = refl };
+  others = wrote_first c.in-Err.ensures.stopped.wrote;
+  no_fault = tt;
+  why = search rules;
 }
