@@ -1,9 +1,11 @@
 -- How a command ends, of any: stopped by its inputs, by want of memory, done, or as a failure of its own.
-use Rattle.std.proofs.Common.{◌≡◌, ◌∙◌, Ok, Err, ap, sym, refl, inl, inr, arith}
+use Rattle.std.proofs.Common.{◌≡◌, ◌∙◌, ◌⊎◌, Ok, Err, ap, sym, refl, subst, inl, inr, arith}
 use Rattle.std.specs.Prelude.{IsTrue}
 use Rattle.file_plans.specs.End.{FilesEnd}
+use Rattle.file_plans.specs.Parts.{printed}
 use Rattle.file_plans.specs.declared.part.Part.TheVariants as part
-use Rattle.play_base.specs.View.{View, SameCounts}
+use Rattle.play_base.specs.View.{View, Later, SameCounts, Unchanged}
+use Rattle.play_base.proofs.ViewLaws.{rose_later}
 use Rattle.run_inputs.specs.declared.inputs.Unready.{Unready}
 use Rattle.run_inputs.specs.declared.inputs.Unready.TheVariants as unready
 use Rattle.run_inputs.specs.declared.stop.Stop.{Stop}
@@ -15,8 +17,8 @@ use Rattle.run_inputs.proofs.OneThing.{one_stop, ready_not_stopped}
 use Rattle.run_outcomes.specs.declared.outcome.Done.{Done}
 use Rattle.run_outcomes.specs.declared.outcome.Failure.{Failure}
 use Rattle.run_outcomes.specs.declared.outcome.Failure.TheVariants as failure
-use Rattle.run_outcomes.specs.Faults.{IsQuiet}
-use Rattle.run_outcomes.specs.Outcome.{IsOr, Outcome}
+use Rattle.run_outcomes.specs.Faults.{IsQuiet, WriteFailed}
+use Rattle.run_outcomes.specs.Outcome.{IsOr, IsOrMemory, Outcome}
 use Rattle.command_form.specs.Ends.{Comes, CommandEnds, Expects}
 use Rattle.command_form.specs.Form.{AreReadyWhereTold, Command, InputsFirst, ReadsInputs, StopsAt, stop_failure, unready_failure}
 use Rattle.command_form.proofs.FirstLaws.{come_files, come_first, none_come, within_along}
@@ -152,3 +154,47 @@ pub unread_ends : (x : Command) (D : Done → Type 0) (F : Failure → Type 0) (
     → CommandEnds x D F E L u u (Err failure.NoMemory)
 unread_ends x D F E L r u leaves =
     memory_ends x D F E L u u (come_files x r u u (none_come u x.asked)) (come_first x r u u (none_come u x.asked)) leaves refl
+
+or_of : (o p : Outcome) → IsOrMemory o p → IsOr o p
+or_of o (Ok d) h = inl h
+or_of o (Err f) h = h
+
+unsaid_or : (d : Done) (p : Outcome) → IsOrMemory (Ok d) p → IsOr (Err failure.Unsaid) p
+unsaid_or d (Ok c) h = inr refl
+unsaid_or d (Err f) (inl e) = absurd (cc)
+unsaid_or d (Err f) (inr e) = absurd (cc)
+
+-- HOW A COMMAND STANDS behind inputs that are ready, however it ends then
+pub record Stands (x : Command) (L : Type 0) (u w : View) : Type 0 where
+  pub ready : AreReadyWhereTold u x.asked
+  pub files : FilesEnd x.plan u w
+  pub first : InputsFirst x u w
+  pub leaves : L
+
+module _ {x : Command} {D : Done → Type 0} {F : Failure → Type 0} {E : Outcome → Type 0} {L : Type 0} {u w : View} (s : Stands x L u w) where
+  pub stands_done : (d : Done) → D d → SameCounts u w → (IsTrue u.tells → IsQuiet u w → (p : Outcome) → E p → IsOrMemory (Ok d) p)
+      → CommandEnds x D F E L u w (Ok d)
+  stands_done d done counts must = done_ends x D F E L u w d s.ready done counts (λ t q p e. or_of (Ok d) p (must t q p e)) s.files s.first s.leaves
+
+  -- it fails so, which is a failure of its own
+  pub stands_fails : {f : Failure} (g : Failure) → f ≡ g → F g → (IsTrue u.tells → IsQuiet u w → (p : Outcome) → E p → IsOrMemory (Err g) p)
+      → w.said ≡ u.said → CommandEnds x D F E L u w (Err f)
+  stands_fails g same own must said =
+      subst (λ (h : Failure). CommandEnds x D F E L u w (Err h)) (sym same)
+      (own_ends x D F E L u w g s.ready own (λ t q p e. or_of (Err g) p (must t q p e)) s.files s.first s.leaves said)
+
+  -- or for want of memory, or for this cause as this one
+  pub stands_or : {f : Failure} {Q : Type 0} (g : Failure) → (Q → F g) → (Q → IsTrue u.tells → IsQuiet u w → (p : Outcome) → E p → IsOr (Err g) p)
+      → w.said ≡ u.said → (f ≡ failure.NoMemory) ⊎ ((f ≡ g) × Q) → CommandEnds x D F E L u w (Err f)
+  stands_or g own must said (inl e) =
+      subst (λ (h : Failure). CommandEnds x D F E L u w (Err h)) (sym e) (memory_ends x D F E L u w s.files s.first s.leaves said)
+  stands_or g own must said (inr e) =
+      subst (λ (h : Failure). CommandEnds x D F E L u w (Err h)) (sym e.0)
+      (own_ends x D F E L u w g s.ready (own e.1) (must e.1) s.files s.first s.leaves said)
+
+  -- what it did could not be said
+  pub stands_unsaid : {v : View} {f : Failure} (d : Done) → (WriteFailed u w printed → F failure.Unsaid)
+      → (IsTrue u.tells → IsQuiet u w → (p : Outcome) → E p → IsOrMemory (Ok d) p) → Later u v → v.said ≡ u.said → Unchanged v w
+      → (f ≡ failure.NoMemory) ⊎ ((f ≡ failure.Unsaid) × WriteFailed v w printed) → CommandEnds x D F E L u w (Err f)
+  stands_unsaid d own must later silent same why =
+      stands_or failure.Unsaid (λ k. own (rose_later _ _ _ (later.write printed) k)) (λ k t q p e. unsaid_or d p (must t q p e)) (same.said ∙ silent) why

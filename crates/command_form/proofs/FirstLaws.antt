@@ -25,7 +25,7 @@ take_more zero es ds = ([], refl)
 take_more (suc n) [] ds = (take (suc n) ds, refl)
 take_more (suc n) (e ∷ es) ds = let y = take_more n es ds in (y.0, ap (λ (r : List Place). e ∷ r) y.1)
 
-along_more : (es ds : List Place) (u v : View) → CameAlong es u v → CameAlong (es ++ ds) u v
+pub along_more : (es ds : List Place) (u v : View) → CameAlong es u v → CameAlong (es ++ ds) u v
 along_more es ds u v x = record {
   front = x.front;
   rest = x.rest ++ ds;
@@ -185,21 +185,26 @@ pub record KeepsInputs (u v w : View) : Type 0 where
   pub no_arrivals : Untouched v w 2
 
 -- a file of a part that came to be was there before
-was_there : (v w : View) (p f : ℕ) → ((f q : ℕ) → v.part f ≡ Some q → w.part f ≡ Some q) → Untouched v w p → w.part f ≡ Some p → v.part f ≡ Some p
+pub was_there : (v w : View) (p f : ℕ) → ((f q : ℕ) → v.part f ≡ Some q → w.part f ≡ Some q) → Untouched v w p → w.part f ≡ Some p → v.part f ≡ Some p
 was_there v w p f k un e = by (there_or_not (v.part f))
   where
     by : (v.part f ≡ None) ⊎ ((q : ℕ) × (v.part f ≡ Some q)) → v.part f ≡ Some p
     by (inl n) = absurd (un f n e)
     by (inr y) = y.1 ∙ ap (λ (q : ℕ). Some q) (same_part y.0 p (sym (k f y.0 y.1) ∙ e))
 
-pub read_on : (u v w : View) (a : Asked) → IsTrue u.tells → KeepsInputs u v w → HasRead u v a → HasRead u w a
-read_on u v w a t k x = record {
+-- what the configuration has left stays, and it is not opened again
+pub read_kept : (u v w : View) (a : Asked) → ((f : ℕ) → u.part f ≡ None → v.part f ≡ Some 1 → w.left f ≡ v.left f)
+    → ((f p : ℕ) → v.part f ≡ Some p → w.part f ≡ Some p) → Untouched v w 1 → HasRead u v a → HasRead u w a
+read_kept u v w a left part none x = record {
   configured = x.configured;
   says = x.says;
   taken = λ g fresh e rest at.
-      let there = was_there v w 1 g k.part k.no_config e in
-      x.taken g fresh there rest (sym (k.config g t fresh there) ∙ at);
+      let there = was_there v w 1 g part none e in
+      x.taken g fresh there rest (sym (left g fresh there) ∙ at);
 }
+
+pub read_on : (u v w : View) (a : Asked) → IsTrue u.tells → KeepsInputs u v w → HasRead u v a → HasRead u w a
+read_on u v w a t k x = read_kept u v w a (λ f fresh e. k.config f t fresh e) k.part k.no_config x
 
 none_left : (tail : List ℕ) → length tail ≤ 0 → tail ≡ []
 none_left [] h = refl

@@ -1,8 +1,7 @@
 -- The lines of what was watched are those of the play.
-use Rattle.std.proofs.Common.{◌≡◌, ◌≤◌, ◌∙◌, ℕ, zero, suc, List, [], ◌∷◌, None, Some, length, ap, arith, refl, subst, sym}
+use Rattle.std.proofs.Common.{◌≡◌, ◌≤◌, ◌∙◌, ℕ, zero, suc, List, [], ◌∷◌, None, Some, ap, refl, subst, sym}
 use Rattle.std.specs.Prelude.{Option, option_map, slice_get}
 use Rattle.altq_model.specs.History.{Event}
-use Rattle.altq_model.specs.Play.{Policy}
 use Rattle.service_curve.specs.declared.Curve.{Curve}
 use Rattle.conf_laws.specs.Fit.{IsCurveIfAny, IsHfscClass, IsInterface, IsOfKind}
 use Rattle.conf_laws.specs.Laws.{ConfigurationsFit}
@@ -14,19 +13,15 @@ use Rattle.hfsc_model.specs.declared.HfscClass.{HfscClass}
 use Rattle.hfsc_model.specs.Event.{HfscHistory}
 use Rattle.hfsc_model.specs.Tree.{class_of}
 use Rattle.hfsc_order.specs.Order.{HaveSlopes}
-use Rattle.discipline.specs.Laws.{HasRate}
 use Rattle.hfsc_policy.specs.Classes.{IsClassTree}
-use Rattle.hfsc_policy.specs.Policy.{hfsc_policy}
 use Rattle.hfsc_policy.specs.Events.{hfsc_history}
 use Rattle.interface_play.specs.Setup.{IsConfigured}
 use Rattle.interface_policy.specs.Classes.{hfsc_classes}
-use Rattle.interface_policy.specs.Policy.{answering_of, policy_by, policy_of}
 use Rattle.interface_policy.proofs.Trees.{class_tree}
 use Rattle.share_gaps.specs.declared.siblings.Siblings.{Siblings}
 use Rattle.share_gaps.specs.Rows.{rows}
 use Rattle.share_gaps.specs.Watching.{gap_after}
 use Rattle.share_report.specs.Report.{IsGapOf, IsWithinBound, gaps_after}
-use Rattle.share_report.specs.Watched.{IsHfscOver}
 use Rattle.shares_command.specs.Lines.{gap_lines}
 use Rattle.shares_command.specs.Measured.{lines_by}
 use Rattle.shares_command.specs.Measuring.{AreLinesOf}
@@ -36,71 +31,36 @@ slope_of : (o : Option Curve) (s : Curve) → IsCurveIfAny 0 1 o → o ≡ Some 
 slope_of None s x e = absurd cc
 slope_of (Some k) s x e = let same : k ≡ s = cc in let low = x.second.0 in subst (λ (y : Curve). 1 ≤ y.m2) same low
 
-own_of : (k : Kind) (c : Class) → k ≡ Hfsc → IsOfKind k c → IsHfscClass c
-own_of Hfsc c e x = x
-own_of Cbq c e x = absurd cc
-
 slope_at : (classes : List Class) (c : ℕ) (s : Curve) → ((k : ℕ) (x : Class) → slice_get classes k ≡ Some x → IsHfscClass x)
     → (class_of (hfsc_classes classes) c).share ≡ Some s → 1 ≤ s.m2
 slope_at [] c s own e = absurd cc
 slope_at (x ∷ xs) zero s own e = slope_of x.share s (own 0 x refl).share e
 slope_at (x ∷ xs) (suc c) s own e = slope_at xs c s (λ k. own (suc k)) e
 
-pub have_slopes : (i : Interface) → IsInterface i → i.kind ≡ Hfsc → HaveSlopes (hfsc_classes i.classes)
-have_slopes i fit e = λ c s has f. slope_at i.classes c s (λ k x at. own_of i.kind x e (fit.tree.class k x at).own) f
-
--- what is watched is HFSC over the classes of the interface
-pub over_classes : (i : Interface) (cs : List HfscClass) (p : Policy) → i.kind ≡ Hfsc → cs ≡ hfsc_classes i.classes → p ≡ policy_of i → IsHfscOver cs p
-over_classes i cs p e same is = record {
-  answer = answering_of i;
-  is = is ∙ ap (λ (k : Kind). policy_by k i) e ∙ ap (λ (ks : List HfscClass). hfsc_policy ks (answering_of i)) (sym same);
-}
+have_slopes : (i : Interface) → IsInterface i → i.kind ≡ Hfsc → HaveSlopes (hfsc_classes i.classes)
+have_slopes i fit e = λ c s has f. slope_at i.classes c s (λ k x at. subst (λ (z : Kind). IsOfKind z x) e (fit.tree.class k x at).own) f
 
 pub tree_over : (i : Interface) (cs : List HfscClass) → IsInterface i → i.kind ≡ Hfsc → cs ≡ hfsc_classes i.classes → IsClassTree cs
 tree_over i cs fit e same = subst IsClassTree (sym same) (class_tree i fit e)
 
-as_many : (classes : List Class) → length (hfsc_classes classes) ≡ length classes
-as_many [] = refl
-as_many (c ∷ cs) = ap suc (as_many cs)
-
-pub few_over : (i : Interface) (cs : List HfscClass) → IsInterface i → cs ≡ hfsc_classes i.classes → length cs ≤ 256
-few_over i cs fit same =
-    let few = fit.classes in
-    let count = as_many i.classes in
-    let all : length cs ≡ length (hfsc_classes i.classes) = ap (λ (ks : List HfscClass). length ks) same in
-    omega (arith, few, count, all)
-
-pub rate_over : (a b : Option ℕ) (rate : ℕ) → a ≡ b → HasRate b rate → HasRate a rate
-rate_over a b rate e h = subst (λ (o : Option ℕ). HasRate o rate) (sym e) h
-
 -- the lines of HFSC
-by_kind : (k : Kind) (classes : List Class) (h : HfscHistory) (text : List ℕ) → k ≡ Hfsc → text ≡ gap_lines classes (gaps_after (hfsc_classes classes) h)
-    → text ≡ lines_by k classes h
-by_kind Hfsc classes h text e f = f
-by_kind Cbq classes h text e f = absurd cc
-
 pub lines_of : (i : Interface) (cs : List HfscClass) (events : List Event) (text : List ℕ) → IsInterface i → i.kind ≡ Hfsc → cs ≡ hfsc_classes i.classes
     → text ≡ gap_lines i.classes (gaps_after cs (hfsc_history events)) → ((ks : List HfscClass) (g : HfscHistory) (s : Siblings) → IsGapOf ks g s (gap_after ks g s))
     → (HaveSlopes cs → (row : ℕ) → IsWithinBound (option_map (gap_after cs (hfsc_history events)) (slice_get (rows cs) row))) → AreLinesOf i events text
 lines_of i cs events text fit kind same is greatest within =
     let h = hfsc_history events in
-    let P : List HfscClass → Type 0 = λ ks. HaveSlopes ks → (row : ℕ) → IsWithinBound (option_map (gap_after ks h) (slice_get (rows ks) row)) in
+    let P : Kind → Type 0 = λ k. text ≡ lines_by k i.classes h in
+    let Q : List HfscClass → Type 0 = λ ks. HaveSlopes ks → (row : ℕ) → IsWithinBound (option_map (gap_after ks h) (slice_get (rows ks) row)) in
     record {
-      lines = by_kind i.kind i.classes h text kind (is ∙ ap (λ (ks : List HfscClass). gap_lines i.classes (gaps_after ks h)) same);
-      fair = λ e. record { greatest = greatest (hfsc_classes i.classes) h; within = subst P same within (have_slopes i fit kind) };
+      lines = subst P (sym kind) (is ∙ ap (λ (ks : List HfscClass). gap_lines i.classes (gaps_after ks h)) same);
+      fair = λ e. record { greatest = greatest (hfsc_classes i.classes) h; within = subst Q same within (have_slopes i fit kind) };
     }
 
 -- of CBQ there are none
-none_by : (k : Kind) (classes : List Class) (h : HfscHistory) → k ≡ Cbq → [] ≡ lines_by k classes h
-none_by Cbq classes h e = refl
-none_by Hfsc classes h e = absurd cc
-
-not_both : (k : Kind) {A : Type 0} → k ≡ Cbq → k ≡ Hfsc → A
-not_both Cbq e f = absurd cc
-not_both Hfsc e f = absurd cc
-
 pub no_lines : (i : Interface) (events : List Event) (text : List ℕ) → i.kind ≡ Cbq → text ≡ [] → AreLinesOf i events text
-no_lines i events text e f = record { lines = f ∙ none_by i.kind i.classes (hfsc_history events) e; fair = λ g. not_both i.kind e g }
+no_lines i events text e f =
+    let P : Kind → Type 0 = λ k. text ≡ lines_by k i.classes (hfsc_history events) in
+    record { lines = subst P (sym e) f; fair = λ g. absurd (cc) }
 
 -- the numbers of an interface that is configured are in their ranges
 pub fits : (i : Interface) → ConfigurationsFit → IsConfigured i → IsInterface i

@@ -1,9 +1,6 @@
 use Rattle.std.proofs.Common.{◌∙◌}
-use Rattle.std.specs.Prelude.{string_bytes}
-use Rattle.altq_model.specs.History.{unlabelled}
 use Rattle.play_command.proofs.StayLaws.{done_as, failed_so, memory_behind, unbegun_ends}
 use Rattle.share_report.proofs.ClassLemmas.{same_classes}
-use Rattle.shares_command.specs.Measuring.{AreLinesOf, Unkept}
 use Rattle.shares_command.proofs.LineLemmas.{fits}
 use Rattle.shares_command.proofs.measuring.play_hfsc.Goals as goal
 
@@ -11,11 +8,10 @@ pub watched_of-requires-clause-fit : goal.watched_of-requires-clause-fit
 watched_of-requires-clause-fit g c = fits c.args.play.now.interface.now c.configurations_fit.ensures c.requires.may.configured
 
 pub returns-in-Err-clause-ended : goal.returns-in-Err-clause-ended
-returns-in-Err-clause-ended g c before places opened b = unbegun_ends (λ h. Unit {0}) Unkept _ _ places opened c.args.play.now b
+returns-in-Err-clause-ended g c before places opened b = unbegun_ends b
 
 pub returns-in-Err-play_watched-clause-ended : goal.returns-in-Err-play_watched-clause-ended
-returns-in-Err-play_watched-clause-ended g c before places opened b =
-    failed_so _ (λ h. Unit {0}) _ Unkept _ _ _ places opened c.args.play.now _ (c.in-Err-play_watched.ensures.ended before places opened b)
+returns-in-Err-play_watched-clause-ended g c before places opened b = failed_so (c.in-Err-play_watched.ensures.ended before places opened b)
 
 pub lines_of-requires-clause-fit : goal.lines_of-requires-clause-fit
 lines_of-requires-clause-fit g c = fits c.args.play.now.interface.now c.configurations_fit.ensures c.requires.may.configured
@@ -26,10 +22,8 @@ lines_of-requires-clause-classes g c = same_classes _ _ c.play_watched.ensures.k
 pub returns-in-Ok-lines_of-clause-ended : goal.returns-in-Ok-lines_of-clause-ended
 returns-in-Ok-lines_of-clause-ended g c before places opened b = (
   c.in-Ok-play_watched.field-0,
-  done_as _ (λ h. AreLinesOf c.args.play.now.interface.now (unlabelled h) (string_bytes c.in-Ok-lines_of.text)) _ Unkept _ _ _ places opened c.args.play.now _
-      c.in-Ok-lines_of.ensures (λ k x. tt) (c.in-Ok-play_watched.ensures.ended before places opened b),
+  done_as c.in-Ok-lines_of.ensures (λ k x. tt) (c.in-Ok-play_watched.ensures.ended before places opened b),
 )
 
 pub returns-clause-ended : goal.returns-clause-ended
-returns-clause-ended g c before places opened b =
-    memory_behind _ (λ h. Unit {0}) _ Unkept _ _ _ places opened c.args.play.now _ (c.in-Ok-play_watched.ensures.ended before places opened b)
+returns-clause-ended g c before places opened b = memory_behind (c.in-Ok-play_watched.ensures.ended before places opened b)
