@@ -2,11 +2,9 @@
 use Rattle.std.proofs.Common.{◌≡◌, ◌≤◌, ◌∙◌, ◌∷◌, ap, arith, refl, sym, ℕ, Bool, List, length}
 use Rattle.std.specs.Prelude.{true, false, IsSome, Option, None, Some}
 use Rattle.play_base.specs.View.{View, Keeps, TellsLeft, Wrote}
+use Rattle.play_base.proofs.ViewLaws.{part_of_there}
 use Rattle.arrivals_source.specs.Counted.{AreApart, IsNoLonger, count_of, counted_view, is_output}
-
-there : (o : Option ℕ) → IsSome o → (p : ℕ) × (o ≡ Some p)
-there None h = absurd (cc)
-there (Some p) h = (p, refl)
+use Rattle.arrivals_source.proofs.Alike.{keeps_alike}
 
 -- where the files do not tell, nothing is counted
 same_count : (t : Bool) (taken : ℕ) (left later : Option (List ℕ)) → (t ≡ true → later ≡ left) → count_of t taken later ≡ count_of t taken left
@@ -17,25 +15,15 @@ same_count false taken left later h = refl
 pub wrote_counted : (v w : View) (g file f taken : ℕ) (outputs bytes : List ℕ) → IsSome (v.part file) → AreApart v file outputs → is_output f outputs ≡ true
     → Wrote v w f bytes → Wrote (counted_view v g file taken) (counted_view w g file taken) f bytes
 wrote_counted v w g file f taken outputs bytes here apart at x =
-    let p = there (v.part file) here in
+    let p = part_of_there (v.part file) here in
     let k = x.keeps in
     let left = λ (t : v.tells ≡ true). k.left file p.0 p.1 (λ e. (apart f at).1 t (sym e)) in
     let count : count_of w.tells taken (w.left file) ≡ count_of v.tells taken (v.left file) =
     ap (λ (b : Bool). count_of b taken (w.left file)) k.tells ∙ same_count v.tells taken (v.left file) (w.left file) left in
     record {
       grown = x.grown;
-      keeps = record {
-        tells = k.tells;
-        bytes = k.bytes;
-        left = k.left;
-        part = k.part;
-        name = k.name;
-        later = record {
-          read = k.later.read;
-          write = k.later.write;
-          fixed = ap (λ (n : ℕ). g ∷ file ∷ n ∷ w.fixed) count ∙ ap (λ (l : List ℕ). g ∷ file ∷ count_of v.tells taken (v.left file) ∷ l) k.later.fixed;
-        };
-      };
+      keeps = keeps_alike v w v.left w.left (counted_view v g file taken).fixed (counted_view w g file taken).fixed _ _ (λ t h k e. e)
+          (λ e. ap (λ (n : ℕ). g ∷ file ∷ n ∷ w.fixed) count ∙ ap (λ (l : List ℕ). g ∷ file ∷ count_of v.tells taken (v.left file) ∷ l) e) k;
       none = x.none;
       said = x.said;
     }
@@ -57,14 +45,7 @@ module _ (v w : View) (g h file next later : ℕ) (N : List ℕ → Type 0) (F :
   counted_fixed = are_counted v w g h file next 0 later k.later.fixed
 
   pub keeps_behind : Keeps N F v w
-  keeps_behind = record {
-    tells = k.tells;
-    bytes = k.bytes;
-    left = k.left;
-    part = k.part;
-    name = k.name;
-    later = record { read = k.later.read; write = k.later.write; fixed = counted_fixed.behind };
-  }
+  keeps_behind = keeps_alike (counted_view v g file 0) (counted_view w h next later) v.left w.left v.fixed w.fixed N F (λ t f kept e. e) (λ e. counted_fixed.behind) k
 
   shorter : (all : List ℕ) (o : Option (List ℕ)) → IsSome o → count_of true later o ≡ count_of true 0 (Some all) → (rest : List ℕ) × (o ≡ Some rest) × (length rest ≤ length all)
   shorter all None here e = absurd (cc)
@@ -72,7 +53,7 @@ module _ (v w : View) (g h file next later : ℕ) (N : List ℕ → Type 0) (F :
 
   pub no_longer : TellsLeft w → IsSome (v.part file) → IsNoLonger v w file
   no_longer told here t all at =
-      let p = there (v.part file) here in
+      let p = part_of_there (v.part file) here in
       let tells : w.tells ≡ true = k.tells ∙ t in
       let c = counted_fixed in
       let count : count_of true later (w.left file) ≡ count_of true 0 (Some all) =

@@ -2,4 +2,3 @@ pub mod Alike
 pub mod CountedLaws
 pub mod ReadLemmas
 pub mod SourceLaws
-pub mod SourceReads

@@ -1,9 +1,8 @@
 -- What is read through a source, and what a call on it did to the files behind it.
-use Rattle.std.proofs.Common.{◌≡◌, ◌≤◌, ◌+◌, ◌∙◌, ◌∷◌, ap, ℕ, Bool, true, false, List, [], length, refl, arith, sym, inl, inr}
-use Rattle.std.specs.Prelude.{◌≢◌, ◌⊎◌, eqb, None, Some}
+use Rattle.std.proofs.Common.{◌≡◌, ◌≤◌, ◌+◌, ◌∙◌, ◌∷◌, ap, ℕ, Bool, true, false, List, [], length, refl, arith, sym}
+use Rattle.std.specs.Prelude.{◌≢◌, eqb, None, Some}
 use Rattle.std.specs.declared.option.Option.{Option}
-use Rattle.std.proofs.lemmas.Bool.{ne_eqb}
-use Rattle.std.proofs.lemmas.Bool.Decides.{eqb_tells}
+use Rattle.std.proofs.lemmas.Bool.{eq-eqb, ne_eqb}
 use Rattle.altq_model.specs.declared.Placed.{Placed}
 use Rattle.marked_files.specs.Markings.{given}
 use Rattle.marked_files.specs.Taking.{holds}
@@ -12,25 +11,30 @@ use Rattle.marked_files.proofs.CaptureLaws.{all_read, given_marked}
 use Rattle.marked_files.proofs.Lengths.{length-given}
 use Rattle.pcapng_files.specs.declared.front.Front.{Front}
 use Rattle.pcapng_files.specs.Fronts.{with_front}
-use Rattle.play_base.specs.View.{View, Keeps, SameCounts}
+use Rattle.play_base.specs.View.{View, Keeps}
 use Rattle.arrivals_source.specs.Chosen.{is_streamed}
 use Rattle.arrivals_source.specs.Reading.{IsReadWhole, ReadsByWay}
 use Rattle.arrivals_source.specs.Ways.{held_by, source_view, way_number, way_own, with_way}
 use Rattle.arrivals_source.specs.declared.way.Way.{Way}
 use Rattle.arrivals_source.specs.declared.way.Way.TheVariants.{AsGiven, Converted, Marked, MarkedConverted}
-
-self_of : (file : ℕ) → ((eqb file file ≡ true) × (file ≡ file)) ⊎ ((eqb file file ≡ false) × (file ≢ file)) → eqb file file ≡ true
-self_of file (inl h) = h.0
-self_of file (inr h) = absurd (h.1 refl)
+use Rattle.arrivals_source.proofs.Alike.{keeps_alike}
 
 -- the file itself has what comes of it, and another has its own
 pub left_self : {C : Type 0} (file : ℕ) (placed : C → List ℕ → Placed) (front : Front) (way : Way C) (tells : Bool) (left : Option (List ℕ))
     → with_way (eqb file file) placed front way tells left ≡ way_own placed front way tells left
-left_self file placed front way tells left = ap (λ (b : Bool). with_way b placed front way tells left) (self_of file (eqb_tells file file))
+left_self file placed front way tells left = ap (λ (b : Bool). with_way b placed front way tells left) (eq-eqb file file refl)
+
+not_own : {C : Type 0} (placed : C → List ℕ → Placed) (front : Front) (way : Way C) (tells : Bool) (left : Option (List ℕ))
+    → with_way false placed front way tells left ≡ left
+not_own placed front AsGiven tells left = refl
+not_own placed front Converted tells left = refl
+not_own placed front (Marked m) tells left = refl
+not_own placed front (MarkedConverted m) tells left = refl
 
 pub left_other : {C : Type 0} (f file : ℕ) (placed : C → List ℕ → Placed) (front : Front) (way : Way C) (tells : Bool) (left : Option (List ℕ)) → f ≢ file
     → with_way (eqb f file) placed front way tells left ≡ left
-left_other f file placed front way tells left other = ap (λ (b : Bool). with_way b placed front way tells left) (ne_eqb f file other)
+left_other f file placed front way tells left other =
+    ap (λ (b : Bool). with_way b placed front way tells left) (ne_eqb f file other) ∙ not_own placed front way tells left
 
 pub is_read_whole : {C : Type 0} (placed : C → List ℕ → Placed) (v w : View) (g file : ℕ) (front : Front) (way : Way C) (capture bytes : List ℕ)
     → IsReadWhole placed v w g file front way capture bytes
@@ -77,23 +81,13 @@ module _ {C : Type 0} (placed : C → List ℕ → Placed) (v w : View) (g h fil
   pub still_fixed : (N : List ℕ → Type 0) (F : ℕ → Type 0) → Keeps N F Old New → AreFixed g h file next way later v.fixed w.fixed
   still_fixed N F k = fixed_are g h file next way later v.fixed w.fixed k.later.fixed
 
-  pub counts_back : SameCounts Old New → SameCounts v w
-  counts_back k = record { read = k.read; write = k.write }
-
   -- what is kept of a source's files is kept of those behind it, but for what the arrivals have left
   pub keeps_back : (N : List ℕ → Type 0) (F : ℕ → Type 0) → ((f : ℕ) → F f → f ≢ file) → Keeps N F Old New → Keeps N F v w
   keeps_back N F other k =
       let same = still_fixed N F k in
-      record {
-        tells = k.tells;
-        bytes = k.bytes;
-        left = λ f p at kept.
-            sym (left_other f next placed ahead later w.tells (w.left f) (λ e. other f kept (e ∙ same.file_is))) ∙ k.left f p at kept
-            ∙ left_other f file placed front way v.tells (v.left f) (other f kept);
-        part = k.part;
-        name = k.name;
-        later = record { read = k.later.read; write = k.later.write; fixed = same.behind };
-      }
+      keeps_alike Old New v.left w.left v.fixed w.fixed N F
+      (λ t f kept e. sym (left_other f next placed ahead later w.tells (w.left f) (λ i. other f kept (i ∙ same.file_is))) ∙ e
+      ∙ left_other f file placed front way v.tells (v.left f) (other f kept)) (λ e. same.behind) k
 
 some_is : (a b : List ℕ) → Some a ≡ Some b → a ≡ b
 some_is a b h = cc

@@ -8,28 +8,24 @@ use Rattle.pcapng_files.specs.Fronts.{with_front}
 use Rattle.pcapng_files.specs.declared.front.Front.{Front}
 use Rattle.arrivals_source.specs.Ways.{held_by, way_own}
 use Rattle.arrivals_source.specs.declared.way.Way.{Way}
-use Rattle.arrivals_source.specs.declared.way.Way.TheVariants.{AsGiven, Converted, Marked, MarkedConverted}
+use Rattle.arrivals_source.specs.declared.way.Way.TheVariants.{AsGiven, Marked, MarkedConverted}
 
 -- the arrivals are read of their file as they are asked for
 abbrev pub is_streamed : {C : Type 0} → Way C → Bool
 is_streamed AsGiven = true
-is_streamed Converted = false
 is_streamed (Marked m) = true
-is_streamed (MarkedConverted m) = false
+is_streamed other = false
 
 -- a marker makes them
 abbrev pub is_marking : {C : Type 0} → Way C → Bool
-is_marking AsGiven = false
-is_marking Converted = false
 is_marking (Marked m) = true
 is_marking (MarkedConverted m) = true
+is_marking other = false
 
 -- the bytes that were taken and stand before those that are read
 abbrev pub first_of : {C : Type 0} → Way C → (front : List ℕ) → List ℕ
 first_of AsGiven front = front
-first_of Converted front = []
-first_of (Marked m) front = []
-first_of (MarkedConverted m) front = []
+first_of other front = []
 
 -- with what is given as the front, the first bytes and what is read behind them are the marked capture of what is given
 abbrev pub Shows : Interface → Given → Way Classes → Type 0

@@ -1,5 +1,5 @@
 -- What is told through files of which the bytes are counted that are taken of one.
-use Rattle.std.specs.Prelude.{◌≡◌, ◌≢◌, ◌≤◌, ◌+◌, ℕ, Bool, true, false, eqb, List, ◌∷◌, length, Option, None, Some, IsSome, IsTrue}
+use Rattle.std.specs.Prelude.{◌≡◌, ◌≢◌, ◌≤◌, ◌+◌, ℕ, Bool, true, eqb, List, ◌∷◌, length, Option, Some, IsSome, IsTrue}
 use Rattle.std.specs.List.{list_any}
 use Rattle.play_base.specs.View.{View}
 
@@ -13,22 +13,11 @@ AreApart v file outputs = (f : ℕ) → is_output f outputs ≡ true → IsSome 
 -- the bytes that were taken and those that are left, where the files tell
 abbrev pub count_of : (tells : Bool) → (taken : ℕ) → Option (List ℕ) → ℕ
 count_of true taken (Some rest) = taken + length rest
-count_of true taken None = 0
-count_of false taken left = 0
+count_of tells taken left = 0
 
 -- all as the files tell, with that count fixed
 abbrev pub counted_view : View → (reference file taken : ℕ) → View
-counted_view v reference file taken = record {
-  tells = v.tells;
-  bytes = v.bytes;
-  said = v.said;
-  part = v.part;
-  name = v.name;
-  left = v.left;
-  read_faults = v.read_faults;
-  write_faults = v.write_faults;
-  fixed = reference ∷ file ∷ count_of v.tells taken (v.left file) ∷ v.fixed;
-}
+counted_view v reference file taken = record v { fixed = reference ∷ file ∷ count_of v.tells taken (v.left file) ∷ v.fixed }
 
 -- what the file has left is no longer than it was
 abbrev pub IsNoLonger : View → View → (file : ℕ) → Type 0

@@ -2,7 +2,7 @@
 ghost use Rattle.std.specs.Prelude.{◌≤◌, IsSome};
 ghost use Rattle.marked_files.specs.Taking.{holds};
 ghost use Rattle.arrivals_source.specs.Seen.{both_seen, front_seen, marks_seen};
-ghost use Rattle.arrivals_source.specs.Through.{ReadThrough};
+ghost use Rattle.arrivals_source.specs.Through.{ReadSo};
 
 use discipline::Classify;
 use marked_files::{MarkedFiles, Marker};
@@ -18,7 +18,7 @@ pub(crate) fn read_front<F: Files>(
     into: &mut [u8],
 ) -> Result<usize, Trouble>
     requires there { IsSome ((F.view files.old).part file) }
-    ensures { ReadThrough (λ v. front_seen v file front.old) (λ v. front_seen v file front.new) (F.view files.old) (F.view files.new) file into.new result }
+    ensures { ReadSo (front_seen (F.view files.old) file front.old) (front_seen (F.view files.new) file front.new) file into.new result }
 {
     let mut fronted = FrontFiles {
         files,
@@ -41,8 +41,8 @@ pub(crate) fn read_marked<F: Files, C: Classify + Drop>(
     requires there { IsSome ((F.view files.old).part file) }
     requires few { holds marker.old ≤ 262160 }
     ensures few { holds marker.new ≤ 262160 }
-    ensures read { ReadThrough (λ v. marks_seen C.placed v file marker.old) (λ v. marks_seen C.placed v file marker.new)
-        (F.view files.old) (F.view files.new) file into.new result }
+    ensures read { ReadSo (marks_seen C.placed (F.view files.old) file marker.old) (marks_seen C.placed (F.view files.new) file marker.new)
+        file into.new result }
 {
     let mut marked = MarkedFiles {
         files,
@@ -64,8 +64,8 @@ pub(crate) fn read_both<F: Files, C: Classify + Drop>(
     requires there { IsSome ((F.view files.old).part file) }
     requires few { holds marker.old ≤ 262160 }
     ensures few { holds marker.new ≤ 262160 }
-    ensures read { ReadThrough (λ v. both_seen C.placed v file front.old marker.old) (λ v. both_seen C.placed v file front.new marker.new)
-        (F.view files.old) (F.view files.new) file into.new result }
+    ensures read { ReadSo (both_seen C.placed (F.view files.old) file front.old marker.old)
+        (both_seen C.placed (F.view files.new) file front.new marker.new) file into.new result }
 {
     let mut fronted = FrontFiles {
         files,

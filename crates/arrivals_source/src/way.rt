@@ -1,6 +1,6 @@
 // In which way a play reads its arrivals.
 ghost use Rattle.std.specs.Prelude.{◌≡◌, ◌≤◌, IsSome};
-ghost use Rattle.arrivals_source.specs.Through.{ReadThrough};
+ghost use Rattle.arrivals_source.specs.Through.{ReadSo};
 ghost use Rattle.arrivals_source.specs.Ways.{held_by, way_number, way_view};
 
 use crate::reading::{read_both, read_front, read_marked};
@@ -36,8 +36,8 @@ impl<C: Classify + Drop> Way<C> {
         requires few { held_by self.old ≤ 262160 }
         ensures few { held_by self.new ≤ 262160 }
         ensures same { way_number self.new ≡ way_number self.old }
-        ensures read { ReadThrough (λ v. way_view C.placed v file front.old self.old) (λ v. way_view C.placed v file front.new self.new)
-            (F.view files.old) (F.view files.new) file into.new result }
+        ensures read { ReadSo (way_view C.placed (F.view files.old) file front.old self.old)
+            (way_view C.placed (F.view files.new) file front.new self.new) file into.new result }
     {
         match self {
             Way::AsGiven => files.read(file, into),

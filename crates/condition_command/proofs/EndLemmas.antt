@@ -40,8 +40,8 @@ use Rattle.command_form.specs.Names.{MarkNames}
 use Rattle.command_form.proofs.EndsLaws.{done_ends, memory_ends, own_ends, unready_ends}
 use Rattle.command_form.proofs.FirstLaws.{KeepsInputs}
 use Rattle.command_form.proofs.HadLaws.{given_of, is_given, of_given}
-use Rattle.condition_command.specs.Conditioning.{ConditionDone, ConditionEnds, ConditionExpected, ConditionLeaves, ConditionOwn, HasConditioned, HasFront, HasReading, IsCutShort, IsStopped, ReadsTo, Streams, TookWithin, condition_command}
-use Rattle.condition_command.specs.Marking.{CameOf, Marks, Stays, unmarked_failure}
+use Rattle.condition_command.specs.Conditioning.{ConditionDone, ConditionEnds, ConditionExpected, ConditionLeaves, ConditionOwn, HasConditioned, HasFront, HasReading, IsCutShort, IsStopped, OfMarked, ReadsTo, Streams, TookWithin, condition_command}
+use Rattle.condition_command.specs.Marking.{AreMarked, CameOf, Marks, Stays, unmarked_failure}
 use Rattle.condition_command.specs.Starting.{HasInputs}
 use Rattle.condition_command.specs.declared.marking.Unmarked.{Unmarked}
 use Rattle.condition_command.specs.declared.marking.Unmarked.TheVariants as unmarked
@@ -62,21 +62,9 @@ record IsEnd (u : View) (n : MarkNames) (p : Outcome) : Type 0 where
 
 is_end : (u : View) (n : MarkNames) (p : Outcome) → ConditionExpected u n p → IsEnd u n p
 is_end u n (Ok done.Done) x = record { step = End; last = tt; reads = x; same = refl }
-is_end u n (Ok done.Exceeds) x = absurd x
 is_end u n (Err (failure.Capture link.Sole (capture.Damage d))) x = record { step = Fault d; last = tt; reads = x; same = refl }
-is_end u n (Err (failure.Capture link.Sole (capture.Block b))) x = absurd x
 is_end u n (Err (failure.Capture link.Sole capture.TooLong)) x = record { step = Limit; last = tt; reads = x; same = refl }
-is_end u n (Err (failure.Capture link.Sole capture.Late)) x = absurd x
-is_end u n (Err (failure.Capture link.First c)) x = absurd x
-is_end u n (Err (failure.Capture link.Second c)) x = absurd x
-is_end u n (Err (failure.Words f)) x = absurd x
-is_end u n (Err (failure.Configuration f)) x = absurd x
-is_end u n (Err (failure.Read p)) x = absurd x
-is_end u n (Err (failure.Write p)) x = absurd x
-is_end u n (Err failure.Unsaid) x = absurd x
-is_end u n (Err (failure.TooLong p)) x = absurd x
-is_end u n (Err (failure.Refuted row _)) x = absurd x
-is_end u n (Err failure.NoMemory) x = absurd x
+is_end u n other x = absurd x
 
 -- it is of inputs that are ready
 pub expected_ready : (u : View) (n : MarkNames) (p : Outcome) → ConditionExpected u n p → (i : Inputs) × AreReady u (condition_command n).asked i
@@ -102,18 +90,6 @@ pub record HasRun (u v d e : View) (n : MarkNames) (r : ReadConf) (x : Arrivals)
 pub record Faults (d e : View) (from to : ℕ) (rest : Bool) (why : Unmarked) : Type 0 where
   pub read : why ≡ unmarked.Read → (rest ≡ true) × ReadFault d e from
   pub write : why ≡ unmarked.Write → WriteFault d e to
-
--- what the marked file holds of the capture
-pub record Wrote (e : View) (n : MarkNames) (from : ℕ) (i : Interface) (capture : List ℕ) (rest : Bool) (y : Result ⊤ Unmarked) : Type 0 where
-  pub written : List ℕ
-  pub at : e.bytes n.marked ≡ Some written
-  pub front : (tail : List ℕ) × (marked_in i capture ≡ written ++ tail)
-  pub taken : List ℕ
-  pub left : List ℕ
-  pub split : capture ≡ taken ++ left
-  pub leaves : rest ≡ true → e.left from ≡ Some left
-  pub few : length taken ≤ length written + 262160
-  pub came : CameOf (conditioning_of i) capture taken written y
 
 rest_of : (b : Bool) (bytes : List ℕ) → (b ≡ false → is_pcapng bytes ≡ true) → is_pcapng bytes ≡ false → b ≡ true
 rest_of true bytes h classic = refl
@@ -243,24 +219,16 @@ module _ (u v d e : View) (n : MarkNames) (r : ReadConf) (x : Arrivals) (to : �
   abbrev given : IsTrue u.tells → Given
   given t = given_of u v n.arrivals x (h.has.had.given t)
 
-  wrote : (t : IsTrue u.tells) → Wrote e n x.file found (given t).capture x.given.rest y
+  -- what the marked file holds of the capture
+  wrote : (t : IsTrue u.tells) → AreMarked d e x.file to x.given.rest (conditioning_of found) (given t).capture y
   wrote t =
       let f = (h.has.had.given t).follows in
       let shown : with_front true x.given.rest x.given.front.items (d.left x.file) ≡ Some f.bytes =
       ap (λ (o : Option (List ℕ)). with_front true x.given.rest x.given.front.items o) (left_there t) ∙ f.left in
-      let k = h.marks (told_d t) (conditioning_of found) h.begins.stands f.bytes shown in
-      let named = named_to t in
-      record {
-        written = k.written;
-        at = ap e.bytes (sym named) ∙ k.grown [] (ap d.bytes named ∙ h.empty (told_v t));
-        front = k.front;
-        taken = k.taken;
-        left = k.left;
-        split = k.split;
-        leaves = k.leaves;
-        few = k.few;
-        came = k.came;
-      }
+      h.marks (told_d t) (conditioning_of found) h.begins.stands f.bytes shown
+
+  held : (t : IsTrue u.tells) → e.bytes n.marked ≡ Some (wrote t).0.written
+  held t = ap e.bytes (sym (named_to t)) ∙ (wrote t).0.grown [] (ap d.bytes (named_to t) ∙ h.empty (told_v t))
 
   -- what holds of what is had holds of what is given, and of nothing else
   of_had : (P : Interface → Given → Type 0) (t : IsTrue u.tells) → P found (given t) → IsGiven u (condition_command n).asked P
@@ -276,20 +244,20 @@ module _ (u v d e : View) (n : MarkNames) (r : ReadConf) (x : Arrivals) (to : �
   leaves : ConditionLeaves u e n
   leaves = record {
     front = λ t i g a is.
-        let w = wrote t in
-        any_given (λ j k. HasFront u e n (marked_in j k.capture)) t i g a is (inr (w.written, w.front.0, w.at, w.front.1));
+        let w = (wrote t).0 in
+        any_given (λ j k. HasFront u e n (marked_in j k.capture)) t i g a is (inr (w.written, w.front.0, held t, w.front.1));
     streams = λ t i g a is.
         any_given (λ j k. is_pcapng k.bytes ≡ false → Streams u e n k.capture) t i g a is (λ classic. streams t classic);
   }
     where
       within : (t : IsTrue u.tells) → is_pcapng (given t).bytes ≡ false → TookWithin e n x.file (given t).capture
       within t classic =
-          let w = wrote t in
+          let w = (wrote t).0 in
           record {
             left = w.left;
-            leaves = w.leaves (rest_of x.given.rest (given t).bytes (h.has.had.given t).follows.pcapng classic);
+            leaves = (wrote t).1 (rest_of x.given.rest (given t).bytes (h.has.had.given t).follows.pcapng classic);
             marked = w.written;
-            at = w.at;
+            at = held t;
             within = omega (arith, w.few, ap length w.split, length-append w.taken w.left);
           }
 
@@ -336,44 +304,33 @@ module _ (u v d e : View) (n : MarkNames) (r : ReadConf) (x : Arrivals) (to : �
       memory_ends (condition_command n) (ConditionDone u e n) (ConditionOwn u e n) (ConditionExpected u n) (ConditionLeaves u e n) u e
       files first leaves unsaid
 
--- IT IS DONE
-pub conditioned : (u v d e : View) (n : MarkNames) (r : ReadConf) (x : Arrivals) (to : ℕ) (m : Marking Classes) (y : ⊤) → HasRun u v d e n r x to m (Ok y)
-    → SameCounts u e → ConditionEnds u e n (Ok done.Done)
-conditioned u v d e n r x to m y h counts =
-    done_ends (condition_command n) (ConditionDone u e n) (ConditionOwn u e n) (ConditionExpected u n) (ConditionLeaves u e n) u e done.Done
-    (ready u v n r x h.has) (
-      λ t.
-          let w = wrote u v d e n r x to m (Ok y) h t in
-          of_had u v d e n r x to m (Ok y) h (HasConditioned e n) t
-          (record { records = w.came.0.records; whole = w.came.0.reads; marked = w.at ∙ ap Some w.came.1 }),
-      unsaid u v d e n r x to m (Ok y) h,
-    )
-    counts
-    (must u v d e n r x to m (Ok y) h End tt (λ t. let w = wrote u v d e n r x to m (Ok y) h t in (w.came.0.records, w.came.0.reads)))
-    (files u v d e n r x to m (Ok y) h) (first u v d e n r x to m (Ok y) h) (leaves u v d e n r x to m (Ok y) h)
+  -- what came of the marking
+  came : (o : Result ⊤ Unmarked) → y ≡ o → (t : IsTrue u.tells) → let w = (wrote t).0 in CameOf (conditioning_of found) (given t).capture w.taken w.written o
+  came o is t = let w = (wrote t).0 in subst (λ (o : Result ⊤ Unmarked). CameOf (conditioning_of found) (given t).capture w.taken w.written o) is w.came
 
--- IT IS NOT
-module _ (u v d e : View) (n : MarkNames) (r : ReadConf) (x : Arrivals) (to : ℕ) (m : Marking Classes) where
-  abbrev Run : Unmarked → Type 0
-  Run why = HasRun u v d e n r x to m (Err why)
+  -- IT IS DONE
+  pub conditioned : (k : ⊤) → y ≡ Ok k → SameCounts u e → ConditionEnds u e n (Ok done.Done)
+  conditioned k is counts =
+      let c = came (Ok k) is in
+      done_ends (condition_command n) (ConditionDone u e n) (ConditionOwn u e n) (ConditionExpected u n) (ConditionLeaves u e n) u e done.Done
+      (ready u v n r x h.has)
+      (λ t. of_had (HasConditioned e n) t (record { records = (c t).0.records; whole = (c t).0.reads; marked = held t ∙ ap Some (c t).1 }), unsaid) counts
+      (must End tt (λ t. ((c t).0.records, (c t).0.reads))) files first leaves
 
-  stopped : (why : Unmarked) (s : Step) → (h : Run why) → IsLast s
-      → ((t : IsTrue u.tells) → AreWhole (conditioning_of h.has.had.configured.found) (given u v d e n r x to m (Err why) h t).capture s
-      (wrote u v d e n r x to m (Err why) h t).written)
-      → (IsTrue u.tells → IsGiven u (condition_command n).asked (IsStopped e n s))
-      × (IsTrue u.tells → IsQuiet u e → (p : Outcome) → ConditionExpected u n p → IsOr (end_outcome s) p)
-  stopped why s h last whole = (
-    λ t.
-        let w = wrote u v d e n r x to m (Err why) h t in
-        of_had u v d e n r x to m (Err why) h (IsStopped e n s) t (record { marked = w.written; at = w.at; whole = whole t }),
-    must u v d e n r x to m (Err why) h s last (λ t. let z = whole t in (z.records, z.reads)),
-  )
+  -- IT IS NOT: the capture reads to this end, a read failed, or a write
+  stopped : (s : Step) (f : Failure) → IsLast s → end_outcome s ≡ Err f → (OfMarked u n (IsStopped e n s) → ConditionOwn u e n f)
+      → ((t : IsTrue u.tells) → AreWhole (conditioning_of found) (given t).capture s (wrote t).0.written) → ConditionEnds u e n (Err f)
+  stopped s f last is own whole =
+      ends_own f (own (λ t. of_had (IsStopped e n s) t (record { marked = (wrote t).0.written; at = held t; whole = whole t })))
+      (subst (λ (o : Outcome). IsTrue u.tells → IsQuiet u e → (p : Outcome) → ConditionExpected u n p → IsOr o p) is
+      (must s last (λ t. ((whole t).records, (whole t).reads))))
 
-  cut_short : (h : Run unmarked.Read) → x.given.rest ≡ true → (t : IsTrue u.tells) → IsGiven u (condition_command n).asked (IsCutShort u e n)
-  cut_short h rest t =
-      let w = wrote u v d e n r x to m (Err unmarked.Read) h t in
+  cut_short : y ≡ Err unmarked.Read → x.given.rest ≡ true → OfMarked u n (IsCutShort u e n)
+  cut_short is rest t =
+      let w = (wrote t).0 in
+      let c = came (Err unmarked.Read) is t in
       let a = arrivals_of u v n r x h.has in
-      of_had u v d e n r x to m (Err unmarked.Read) h (IsCutShort u e n) t (record {
+      of_had (IsCutShort u e n) t (record {
         read_on = ((h.has.had.given t).follows.classic rest).0;
         taken = w.taken;
         left = w.left;
@@ -381,30 +338,24 @@ module _ (u v d e : View) (n : MarkNames) (r : ReadConf) (x : Arrivals) (to : �
         file = x.file;
         fresh = a.fresh;
         part = h.stays.keeps.part x.file 2 (h.created.keeps.part x.file 2 a.part);
-        leaves = w.leaves rest;
-        last = w.came.0;
-        is_last = w.came.1;
-        holds = record { marked = w.written; at = w.at; whole = w.came.2 };
+        leaves = (wrote t).1 rest;
+        last = c.0;
+        is_last = c.1;
+        holds = record { marked = w.written; at = held t; whole = c.2 };
       })
 
-  pub unmarked_ends : (why : Unmarked) → Run why → Faults d e x.file to x.given.rest why → ConditionEnds u e n (Err (unmarked_failure why))
-  unmarked_ends (unmarked.Damaged damage) h f =
-      let s = stopped (unmarked.Damaged damage) (Fault damage) h tt (λ t. (wrote u v d e n r x to m (Err (unmarked.Damaged damage)) h t).came) in
-      ends_own u v d e n r x to m (Err (unmarked.Damaged damage)) h (failure.Capture link.Sole (capture.Damage damage)) s.0 s.1
-  unmarked_ends unmarked.Limit h f =
-      let s = stopped unmarked.Limit Limit h tt (λ t. (wrote u v d e n r x to m (Err unmarked.Limit) h t).came) in
-      ends_own u v d e n r x to m (Err unmarked.Limit) h (failure.Capture link.Sole capture.TooLong) s.0 s.1
-  unmarked_ends unmarked.Read h f =
+  pub unmarked_ends : (why : Unmarked) → y ≡ Err why → Faults d e x.file to x.given.rest why → ConditionEnds u e n (Err (unmarked_failure why))
+  unmarked_ends (unmarked.Damaged damage) is f = stopped (Fault damage) _ tt refl (λ o. o) (came (Err (unmarked.Damaged damage)) is)
+  unmarked_ends unmarked.Limit is f = stopped Limit _ tt refl (λ o. o) (came (Err unmarked.Limit) is)
+  unmarked_ends unmarked.Read is f =
       let z = f.read refl in
       let at : d.part x.file ≡ Some 2 = h.created.keeps.part x.file 2 (arrivals_of u v n r x h.has).part in
-      let rose = rose_later (u.read_faults 2) (d.read_faults 2) (e.read_faults 2) (read_before u v d e n r x to m (Err unmarked.Read) h 2) (z.1 2 at) in
-      ends_own u v d e n r x to m (Err unmarked.Read) h (failure.Read part.Arrivals) (rose, cut_short h z.0)
-      (λ t q p k. absurd ((q 2 (omega arith)).0 rose))
-  unmarked_ends unmarked.Write h f =
-      let at : d.part to ≡ Some 6 = h.created.are.0.part in
-      let rose = rose_later (u.write_faults 6) (d.write_faults 6) (e.write_faults 6) (write_before u v d e n r x to m (Err unmarked.Write) h 6) (f.write refl 6 at) in
-      ends_own u v d e n r x to m (Err unmarked.Write) h (failure.Write part.Marked) rose (λ t q p k. absurd ((q 6 (omega arith)).1 (omega arith) rose))
-  unmarked_ends unmarked.NoMemory h f = ends_memory u v d e n r x to m (Err unmarked.NoMemory) h
+      let rose = rose_later (u.read_faults 2) (d.read_faults 2) (e.read_faults 2) (read_before 2) (z.1 2 at) in
+      ends_own (failure.Read part.Arrivals) (rose, cut_short is z.0) (λ t q p k. absurd ((q 2 (omega arith)).0 rose))
+  unmarked_ends unmarked.Write is f =
+      let rose = rose_later (u.write_faults 6) (d.write_faults 6) (e.write_faults 6) (write_before 6) (f.write refl 6 h.created.are.0.part) in
+      ends_own (failure.Write part.Marked) rose (λ t q p k. absurd ((q 6 (omega arith)).1 (omega arith) rose))
+  unmarked_ends unmarked.NoMemory is f = ends_memory
 
 -- NOTHING WAS CREATED: memory ran out, or the marked file could not be
 module _ (u v e : View) (n : MarkNames) (r : ReadConf) (x : Arrivals) (h : HasInputs u v n r x) (c : Unchanged v e) where

@@ -25,7 +25,7 @@ use Rattle.pcapng_files.specs.Fronts.{with_front}
 use Rattle.play_base.specs.View.{View, Everything, NotNamed, OtherThan, Took, Wrote, WroteFront}
 use Rattle.play_base.proofs.ViewLaws.{keeps_fewer, keeps_refl, keeps_trans, later_trans, part_of_there, still_there, wrote_nothing}
 use Rattle.traffic_marks.specs.Marked.{Conditioning, marked}
-use Rattle.condition_command.specs.Marking.{CameOf, HasMarked, Marks, MarksLeft, Stays, read_trouble, way_by, write_trouble}
+use Rattle.condition_command.specs.Marking.{AreMarked, CameOf, Marks, MarksLeft, Stays, read_trouble, way_by, write_trouble}
 use Rattle.condition_command.specs.Moving.{AreApart, HasMoved, IsOn}
 use Rattle.condition_command.specs.declared.marking.Unmarked.{Unmarked}
 
@@ -38,46 +38,46 @@ moved_nothing v from to = record {
   said = refl;
 }
 
-pub moved_took : (u v w : View) (from to : ℕ) (taken written more : List ℕ) → HasMoved u v from to taken written → Took v w from more
-    → HasMoved u w from to (taken ++ more) written
-moved_took u v w from to taken written more x y = record {
-  left = λ t all at.
-      let one = x.left t all at in
-      let two = y.left one.0 one.2 in
-      (two.0, one.1 ∙ ap (λ (l : List ℕ). taken ++ l) two.1 ∙ sym (append_assoc taken more two.0), two.2);
-  grown = λ t before at. y.keeps.bytes (u.name to) tt ∙ x.grown t before at;
-  keeps = keeps_trans (OtherThan u (u.name to)) (λ f. (f ≢ from) × NotNamed u (u.name to) f) u v w x.keeps
-      (keeps_fewer Everything (OtherThan u (u.name to)) (λ f. f ≢ from) (λ f. (f ≢ from) × NotNamed u (u.name to) f) v w (λ n h. tt) (λ f h. h.0) y.keeps);
-  none = λ f h. y.none f (x.none f h);
-  said = y.said ∙ x.said;
-}
+-- more is taken, or written
+module _ {u v w : View} {from to : ℕ} {taken written : List ℕ} (x : HasMoved u v from to taken written) where
+  pub moved_took : (more : List ℕ) → Took v w from more → HasMoved u w from to (taken ++ more) written
+  moved_took more y = record {
+    left = λ t all at.
+        let one = x.left t all at in
+        let two = y.left one.0 one.2 in
+        (two.0, one.1 ∙ ap (λ (l : List ℕ). taken ++ l) two.1 ∙ sym (append_assoc taken more two.0), two.2);
+    grown = λ t before at. y.keeps.bytes (u.name to) tt ∙ x.grown t before at;
+    keeps = keeps_trans (OtherThan u (u.name to)) (λ f. (f ≢ from) × NotNamed u (u.name to) f) u v w x.keeps
+        (keeps_fewer Everything (OtherThan u (u.name to)) (λ f. f ≢ from) (λ f. (f ≢ from) × NotNamed u (u.name to) f) v w (λ n h. tt) (λ f h. h.0) y.keeps);
+    none = λ f h. y.none f (x.none f h);
+    said = y.said ∙ x.said;
+  }
 
-pub moved_wrote : (u v w : View) (from to : ℕ) (taken written bytes : List ℕ) → AreApart u from to → HasMoved u v from to taken written → Wrote v w to bytes
-    → HasMoved u w from to taken (written ++ bytes)
-moved_wrote u v w from to taken written bytes apart x y =
-    let p = part_of_there (u.part from) apart.from_there in
-    let q = part_of_there (u.part to) apart.to_there in
-    let named : v.name to ≡ u.name to = x.keeps.name to q.0 q.1 in
-    record {
-      left = λ t all at.
-          let one = x.left t all at in
-          let other : v.name from ≢ v.name to = λ e. apart.names t (sym (x.keeps.name from p.0 p.1) ∙ e ∙ named) in
-          (one.0, one.1, y.keeps.left from p.0 (x.keeps.part from p.0 p.1) other ∙ one.2);
-      grown = λ t before at.
-          ap w.bytes (sym named) ∙ y.grown (x.keeps.tells ∙ t) (before ++ written) (ap v.bytes named ∙ x.grown t before at)
-          ∙ ap Some (append_assoc before written bytes);
-      keeps = record {
-        tells = y.keeps.tells ∙ x.keeps.tells;
-        bytes = λ n h. y.keeps.bytes n (λ e. h.1 (e ∙ named)) ∙ x.keeps.bytes n h;
-        left = λ f r h k.
-            y.keeps.left f r (x.keeps.part f r h) (λ e. k.1.1 (sym (x.keeps.name f r h) ∙ e ∙ named)) ∙ x.keeps.left f r h k;
-        part = λ f r h. y.keeps.part f r (x.keeps.part f r h);
-        name = λ f r h. y.keeps.name f r (x.keeps.part f r h) ∙ x.keeps.name f r h;
-        later = later_trans u v w x.keeps.later y.keeps.later;
-      };
-      none = λ f h. y.none f (x.none f h);
-      said = y.said ∙ x.said;
-    }
+  pub moved_wrote : (bytes : List ℕ) → AreApart u from to → Wrote v w to bytes → HasMoved u w from to taken (written ++ bytes)
+  moved_wrote bytes apart y =
+      let p = part_of_there (u.part from) apart.from_there in
+      let q = part_of_there (u.part to) apart.to_there in
+      let named : v.name to ≡ u.name to = x.keeps.name to q.0 q.1 in
+      record {
+        left = λ t all at.
+            let one = x.left t all at in
+            let other : v.name from ≢ v.name to = λ e. apart.names t (sym (x.keeps.name from p.0 p.1) ∙ e ∙ named) in
+            (one.0, one.1, y.keeps.left from p.0 (x.keeps.part from p.0 p.1) other ∙ one.2);
+        grown = λ t before at.
+            ap w.bytes (sym named) ∙ y.grown (x.keeps.tells ∙ t) (before ++ written) (ap v.bytes named ∙ x.grown t before at)
+            ∙ ap Some (append_assoc before written bytes);
+        keeps = record {
+          tells = y.keeps.tells ∙ x.keeps.tells;
+          bytes = λ n h. y.keeps.bytes n (λ e. h.1 (e ∙ named)) ∙ x.keeps.bytes n h;
+          left = λ f r h k.
+              y.keeps.left f r (x.keeps.part f r h) (λ e. k.1.1 (sym (x.keeps.name f r h) ∙ e ∙ named)) ∙ x.keeps.left f r h k;
+          part = λ f r h. y.keeps.part f r (x.keeps.part f r h);
+          name = λ f r h. y.keeps.name f r (x.keeps.part f r h) ∙ x.keeps.name f r h;
+          later = later_trans u v w x.keeps.later y.keeps.later;
+        };
+        none = λ f h. y.none f (x.none f h);
+        said = y.said ∙ x.said;
+      }
 
 -- the files stay where they are
 pub apart_on : (u v : View) (from to : ℕ) (taken written : List ℕ) → AreApart u from to → HasMoved u v from to taken written → AreApart v from to
@@ -99,34 +99,32 @@ on_begun v from to m = record {
   stands = λ c first s. subst (λ (l : List ℕ). IsAtRecordEnd placed_by c l [] m) (sym (append-nil first)) s;
 }
 
-pub on_taken : (u v w : View) (from to : ℕ) (m n o : Marking Classes) → IsOn u v from to m n → HasTakenOn placed_by v w from n o → IsOn u w from to m o
-on_taken u v w from to m n o x y = record {
-  taken = x.taken ++ y.more;
-  written = x.written;
-  moved = moved_took u v w from to x.taken x.written y.more x.moved y.took;
-  stands = λ c first s.
-      subst (λ (l : List ℕ). IsAtRecordEnd placed_by c l x.written o) (append_assoc first x.taken y.more) (y.stands c (first ++ x.taken) x.written (x.stands c first s));
-}
+module _ {u v w : View} {from to : ℕ} {m n : Marking Classes} (x : IsOn u v from to m n) where
+  pub on_taken : {o : Marking Classes} → HasTakenOn placed_by v w from n o → IsOn u w from to m o
+  on_taken {o = o} y = record {
+    taken = x.taken ++ y.more;
+    written = x.written;
+    moved = moved_took x.moved y.more y.took;
+    stands = λ c first s.
+        subst (λ (l : List ℕ). IsAtRecordEnd placed_by c l x.written o) (append_assoc first x.taken y.more) (y.stands c (first ++ x.taken) x.written (x.stands c first s));
+  }
 
-pub on_wrote : (u v w : View) (from to : ℕ) (m n o : Marking Classes) → AreApart u from to → IsOn u v from to m n → Wrote v w to n.held.ready
-    → ((c : Conditioning) (taken bytes : List ℕ) → IsAtRecordEnd placed_by c taken bytes n → IsAtRecordEnd placed_by c taken (bytes ++ n.held.ready) o)
-    → IsOn u w from to m o
-on_wrote u v w from to m n o apart x y given = record {
-  taken = x.taken;
-  written = x.written ++ n.held.ready;
-  moved = moved_wrote u v w from to x.taken x.written n.held.ready apart x.moved y;
-  stands = λ c first s. given c (first ++ x.taken) x.written (x.stands c first s);
-}
+  pub on_wrote : {o : Marking Classes} → AreApart u from to → Wrote v w to n.held.ready
+      → ((c : Conditioning) (taken bytes : List ℕ) → IsAtRecordEnd placed_by c taken bytes n → IsAtRecordEnd placed_by c taken (bytes ++ n.held.ready) o)
+      → IsOn u w from to m o
+  on_wrote apart y given = record {
+    taken = x.taken;
+    written = x.written ++ n.held.ready;
+    moved = moved_wrote x.moved n.held.ready apart y;
+    stands = λ c first s. given c (first ++ x.taken) x.written (x.stands c first s);
+  }
 
--- all but the two files stays
-pub stays_on : (u v : View) (from to : ℕ) (m n : Marking Classes) → IsOn u v from to m n → Stays u v from to
-stays_on u v from to m n x = record { keeps = x.moved.keeps; none = x.moved.none; said = x.moved.said }
+  -- all but the two files stays
+  pub stays_wrote : {bytes : List ℕ} → AreApart u from to → Wrote v w to bytes → Stays u w from to
+  stays_wrote {bytes = bytes} apart y = let h = moved_wrote x.moved bytes apart y in record { keeps = h.keeps; none = h.none; said = h.said }
 
-pub stays_wrote : (u v w : View) (from to : ℕ) (m n : Marking Classes) (bytes : List ℕ) → AreApart u from to → IsOn u v from to m n → Wrote v w to bytes
-    → Stays u w from to
-stays_wrote u v w from to m n bytes apart x y =
-    let h = moved_wrote u v w from to x.taken x.written bytes apart x.moved y in
-    record { keeps = h.keeps; none = h.none; said = h.said }
+pub stays_on : {u v : View} {from to : ℕ} {m n : Marking Classes} → IsOn u v from to m n → Stays u v from to
+stays_on x = record { keeps = x.moved.keeps; none = x.moved.none; said = x.moved.said }
 
 -- what a marker stands for, and what its file has left, is a front of what becomes of the capture
 pub stands_front : (c : Conditioning) (taken bytes left : List ℕ) (m : Marking Classes) (k : ℕ) → IsAtRecordEnd placed_by c taken bytes m
@@ -140,33 +138,54 @@ stands_front c taken bytes left m k s =
           ∙ sym (append_assoc bytes (take k m.held.ready) (drop k m.held.ready ++ rest)),
     )
 
+came_unwritten : (c : Conditioning) (capture taken written : List ℕ) (t : Trouble) → CameOf c capture taken written (Err (write_trouble t))
+came_unwritten c capture taken written trouble.Failed = tt
+came_unwritten c capture taken written trouble.NoMemory = tt
+
+-- what was told of what stands behind what is ready, once that is written
+abbrev pub EndsAs : Behind → Result ⊤ Unmarked → Type 0
+EndsAs b r = (c : Conditioning) (capture taken written : List ℕ) → IsBehind c capture written b → CameOf c capture taken written r
+
 -- what came of a marking of which a front of what is ready was written, or all or nothing
-pub marks_by : (u v w : View) (from to : ℕ) (m n : Marking Classes) (k : ℕ) (r : Result ⊤ Unmarked) → AreApart u from to → IsOn u v from to m n
-    → Wrote v w to (take k n.held.ready) → holds n ≤ 262160
-    → ((c : Conditioning) (taken bytes left : List ℕ) → IsAtRecordEnd placed_by c taken bytes n → v.left from ≡ Some left
-    → CameOf c (taken ++ left) taken (bytes ++ take k n.held.ready) r)
-    → MarksLeft u w from to m r
-marks_by u v w from to m n k r apart x y room came t c first s left at =
-    let ready = take k n.held.ready in
-    let moved = moved_wrote u v w from to x.taken x.written ready apart x.moved y in
-    let there = x.moved.left t left at in
-    let rest = moved.left t left at in
-    let stands = x.stands c first s in
-    let taken = first ++ x.taken in
-    let split : first ++ left ≡ taken ++ there.0 = ap (λ (l : List ℕ). first ++ l) there.1 ∙ sym (append_assoc first x.taken there.0) in
-    let same : there.0 ≡ rest.0 = append_cancel_left x.taken there.0 rest.0 (sym there.1 ∙ rest.1) in
-    let front = stands_front c taken x.written there.0 n k stands in
-    record {
-      written = x.written ++ ready;
-      grown = moved.grown t;
-      front = (front.0, ap (marked c) split ∙ front.1);
-      taken = taken;
-      left = there.0;
-      split = split;
-      leaves = λ e. rest.2 ∙ ap Some (sym same);
-      few = omega (arith, stands.many, room, length-append x.written ready);
-      came = subst (λ (l : List ℕ). CameOf c l taken (x.written ++ ready) r) (sym split) (came c taken x.written there.0 stands there.2);
-    }
+module _ {u v w : View} {from to : ℕ} {m n : Marking Classes} (apart : AreApart u from to) (x : IsOn u v from to m n) (room : holds n ≤ 262160) where
+  marks_by : (k : ℕ) (r : Result ⊤ Unmarked) → Wrote v w to (take k n.held.ready)
+      → ((c : Conditioning) (taken bytes left : List ℕ) → IsAtRecordEnd placed_by c taken bytes n → v.left from ≡ Some left
+      → CameOf c (taken ++ left) taken (bytes ++ take k n.held.ready) r)
+      → MarksLeft u w from to m r
+  marks_by k r y came t c first s left at =
+      let ready = take k n.held.ready in
+      let moved = moved_wrote x.moved ready apart y in
+      let there = x.moved.left t left at in
+      let rest = moved.left t left at in
+      let stands = x.stands c first s in
+      let taken = first ++ x.taken in
+      let split : first ++ left ≡ taken ++ there.0 = ap (λ (l : List ℕ). first ++ l) there.1 ∙ sym (append_assoc first x.taken there.0) in
+      let same : there.0 ≡ rest.0 = append_cancel_left x.taken there.0 rest.0 (sym there.1 ∙ rest.1) in
+      let front = stands_front c taken x.written there.0 n k stands in (
+        record {
+          written = x.written ++ ready;
+          grown = moved.grown t;
+          front = (front.0, ap (marked c) split ∙ front.1);
+          taken = taken;
+          left = there.0;
+          split = split;
+          few = omega (arith, stands.many, room, length-append x.written ready);
+          came = subst (λ (l : List ℕ). CameOf c l taken (x.written ++ ready) r) (sym split) (came c taken x.written there.0 stands there.2);
+        },
+        λ e. rest.2 ∙ ap Some (sym same),
+      )
+
+  -- a write failed, or no memory was left for it: a front of what is ready was written
+  pub marks_unwritten : (t : Trouble) → WroteFront v w to n.held.ready → MarksLeft u w from to m (Err (write_trouble t))
+  marks_unwritten t y = marks_by y.0 (Err (write_trouble t)) y.1 (λ c taken bytes left s at. came_unwritten c (taken ++ left) taken (bytes ++ take y.0 n.held.ready) t)
+
+  pub marks_told : (b : Behind) (r : Result ⊤ Unmarked) → TellsLeft placed_by v from n b → Wrote v w to n.held.ready → EndsAs b r → MarksLeft u w from to m r
+  marks_told b r told y ends =
+      let all : n.held.ready ≡ take (length n.held.ready) n.held.ready = sym (take-length n.held.ready) in
+      marks_by (length n.held.ready) r (subst (λ (l : List ℕ). Wrote v w to l) all y)
+      (λ c taken bytes left s at.
+      ends c (taken ++ left) taken (bytes ++ take (length n.held.ready) n.held.ready)
+      (subst (λ (l : List ℕ). IsBehind c (taken ++ left) (bytes ++ l) b) all (told left at c taken bytes s)))
 
 -- a read failed, or no memory was left for it: nothing more is written
 came_cut : (c : Conditioning) (taken bytes left : List ℕ) (n : Marking Classes) (streamed : Bool) (t : Trouble) → IsAtRecordEnd placed_by c taken bytes n → Waits n → length n.held.ready ≡ 0
@@ -174,39 +193,12 @@ came_cut : (c : Conditioning) (taken bytes left : List ℕ) (n : Marking Classes
 came_cut c taken bytes left n true trouble.Failed s w none =
     let x = cut_whole placed_by c taken bytes n s w none in
     (x.0, x.1, subst (λ (l : List ℕ). AreWhole c taken x.0 l) (sym (append-nil bytes)) x.2)
-came_cut c taken bytes left n false trouble.Failed s w none = tt
-came_cut c taken bytes left n true trouble.NoMemory s w none = tt
-came_cut c taken bytes left n false trouble.NoMemory s w none = tt
+came_cut c taken bytes left n streamed other s w none = tt
 
-pub marks_cut : (u v : View) (from to : ℕ) (m n : Marking Classes) (streamed : Bool) (t : Trouble) → AreApart u from to → IsOn u v from to m n → Waits n
-    → length n.held.ready ≡ 0 → holds n ≤ 262160 → MarksLeft u v from to m (Err (read_trouble streamed t))
-marks_cut u v from to m n streamed t apart x w none room =
-    marks_by u v v from to m n 0 (Err (read_trouble streamed t)) apart x (wrote_nothing v to) room
-    (λ c taken bytes left s at. came_cut c taken bytes left n streamed t s w none)
-
--- a write failed, or no memory was left for it: a front of what is ready was written
-came_unwritten : (c : Conditioning) (capture taken written : List ℕ) (t : Trouble) → CameOf c capture taken written (Err (write_trouble t))
-came_unwritten c capture taken written trouble.Failed = tt
-came_unwritten c capture taken written trouble.NoMemory = tt
-
-pub marks_unwritten : (u v w : View) (from to : ℕ) (m n : Marking Classes) (t : Trouble) → AreApart u from to → IsOn u v from to m n
-    → WroteFront v w to n.held.ready → holds n ≤ 262160 → MarksLeft u w from to m (Err (write_trouble t))
-marks_unwritten u v w from to m n t apart x y room =
-    marks_by u v w from to m n y.0 (Err (write_trouble t)) apart x y.1 room
-    (λ c taken bytes left s at. came_unwritten c (taken ++ left) taken (bytes ++ take y.0 n.held.ready) t)
-
--- what was told of what stands behind what is ready, once that is written
-abbrev pub EndsAs : Behind → Result ⊤ Unmarked → Type 0
-EndsAs b r = (c : Conditioning) (capture taken written : List ℕ) → IsBehind c capture written b → CameOf c capture taken written r
-
-pub marks_told : (u v w : View) (from to : ℕ) (m n : Marking Classes) (b : Behind) (r : Result ⊤ Unmarked) → AreApart u from to → IsOn u v from to m n
-    → TellsLeft placed_by v from n b → Wrote v w to n.held.ready → holds n ≤ 262160 → EndsAs b r → MarksLeft u w from to m r
-marks_told u v w from to m n b r apart x told y room ends =
-    let all : n.held.ready ≡ take (length n.held.ready) n.held.ready = sym (take-length n.held.ready) in
-    marks_by u v w from to m n (length n.held.ready) r apart x (subst (λ (l : List ℕ). Wrote v w to l) all y) room
-    (λ c taken bytes left s at.
-    ends c (taken ++ left) taken (bytes ++ take (length n.held.ready) n.held.ready)
-    (subst (λ (l : List ℕ). IsBehind c (taken ++ left) (bytes ++ l) b) all (told left at c taken bytes s)))
+pub marks_cut : {u v : View} {from to : ℕ} {m n : Marking Classes} → AreApart u from to → IsOn u v from to m n → holds n ≤ 262160 → (streamed : Bool) (t : Trouble)
+    → Waits n → length n.held.ready ≡ 0 → MarksLeft u v from to m (Err (read_trouble streamed t))
+marks_cut {v = v} {to = to} {n = n} apart x room streamed t w none =
+    marks_by apart x room 0 (Err (read_trouble streamed t)) (wrote_nothing v to) (λ c taken bytes left s at. came_cut c taken bytes left n streamed t s w none)
 
 some_is : (x y : List ℕ) → Some x ≡ Some y → x ≡ y
 some_is x y h = cc
@@ -236,39 +228,18 @@ module _ (v w : View) (g h from next to : ℕ) (front ahead : Front) (later : Wa
       fixed : AreFixed g h from next (way_by true) later v.fixed w.fixed
       fixed = still_fixed placed_by v w g h from next front ahead (way_by true) later _ _ s.keeps
 
-      by : (left : Option (List ℕ)) → v.left from ≡ left → with_front true true front.bytes.now left ≡ Some capture → HasMarked v w from to true c capture r
+      by : (left : Option (List ℕ)) → v.left from ≡ left → with_front true true front.bytes.now left ≡ Some capture → AreMarked v w from to true c capture r
       by None e k = absurd (cc)
       by (Some own) e k =
           let y = x t c front.bytes.now stands own (left_self from placed_by front AsGiven v.tells (v.left from) ∙ e) in
-          subst (λ (l : List ℕ). HasMarked v w from to true c l r) (some_is (front.bytes.now ++ own) capture k)
-          (record {
-            written = y.written;
-            grown = y.grown;
-            front = y.front;
-            taken = y.taken;
-            left = y.left;
-            split = y.split;
-            leaves = λ b. sym (new_left fixed.number fixed.file_is) ∙ y.leaves b;
-            few = y.few;
-            came = y.came;
-          })
+          subst (λ (l : List ℕ). AreMarked v w from to true c l r) (some_is (front.bytes.now ++ own) capture k)
+          (y.0, λ b. sym (new_left fixed.number fixed.file_is) ∙ y.1 b)
 
   in_memory : front.rest ≡ false → MarksLeft (Old false) New from to m r → Marks v w from to false front.bytes.now m r
   in_memory none x t c stands capture at =
       let shown : (Old false).left from ≡ Some capture =
       left_self from placed_by front Converted v.tells (v.left from) ∙ ap (λ (b : Bool). with_front true b front.bytes.now (v.left from)) none ∙ at in
-      let y = x t c [] stands capture shown in
-      record {
-        written = y.written;
-        grown = y.grown;
-        front = y.front;
-        taken = y.taken;
-        left = y.left;
-        split = y.split;
-        leaves = λ e. absurd (true≢false (sym e));
-        few = y.few;
-        came = y.came;
-      }
+      ((x t c [] stands capture shown).0, λ e. absurd (true≢false (sym e)))
 
   marks_by_way : (rest : Bool) → front.rest ≡ rest → Stays (Old rest) New from to → MarksLeft (Old rest) New from to m r
       → Marks v w from to rest front.bytes.now m r
@@ -296,21 +267,5 @@ module _ (v w : View) (g h from next to : ℕ) (front ahead : Front) (later : Wa
 
 -- and so of files of which the bytes are counted
 module _ (v w : View) (g h from next to later : ℕ) where
-  pub marks_counted : (rest : Bool) (front : List ℕ) (m : Marking Classes) (r : Result ⊤ Unmarked)
-      → Marks (counted_view v g from 0) (counted_view w h next later) from to rest front m r → Marks v w from to rest front m r
-  marks_counted rest front m r x t c stands capture at =
-      let y = x t c stands capture at in
-      record {
-        written = y.written;
-        grown = y.grown;
-        front = y.front;
-        taken = y.taken;
-        left = y.left;
-        split = y.split;
-        leaves = y.leaves;
-        few = y.few;
-        came = y.came;
-      }
-
   pub stays_counted : Stays (counted_view v g from 0) (counted_view w h next later) from to → Stays v w from to
   stays_counted s = record { keeps = keeps_behind v w g h from next later _ _ s.keeps; none = s.none; said = s.said }

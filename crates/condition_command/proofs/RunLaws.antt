@@ -30,24 +30,8 @@ condition_own_true u v n = record {
   where
     read : (p : Part) → ConditionOwn u v n (failure.Read p) → ReadFailed u v (part_number p)
     read part.Arrivals x = x.0
-    read part.Configuration x = absurd x
-    read part.Departures x = absurd x
-    read part.Fates x = absurd x
-    read part.Statistics x = absurd x
-    read part.Marked x = absurd x
-    read part.SecondDepartures x = absurd x
-    read part.SecondFates x = absurd x
-    read part.SecondStatistics x = absurd x
-    read part.Path x = absurd x
+    read other x = absurd x
 
     write : (p : Part) → ConditionOwn u v n (failure.Write p) → WriteFailed u v (part_number p)
     write part.Marked x = x
-    write part.Configuration x = absurd x
-    write part.Arrivals x = absurd x
-    write part.Departures x = absurd x
-    write part.Fates x = absurd x
-    write part.Statistics x = absurd x
-    write part.SecondDepartures x = absurd x
-    write part.SecondFates x = absurd x
-    write part.SecondStatistics x = absurd x
-    write part.Path x = absurd x
+    write other x = absurd x

@@ -1,5 +1,5 @@
 -- What becomes of a capture that a marker writes from one file to another.
-use Rattle.std.specs.Prelude.{◌≡◌, ◌≢◌, ◌≤◌, ◌+◌, ◌++◌, ℕ, Bool, true, false, List, [], length, Some, Ok, Err, IsTrue, if◌then◌else◌, ⊤}
+use Rattle.std.specs.Prelude.{◌≡◌, ◌≢◌, ◌≤◌, ◌+◌, ◌++◌, ℕ, Bool, true, false, List, [], length, Option, Some, Ok, Err, IsTrue, if◌then◌else◌, ⊤}
 use Rattle.std.specs.declared.result.Result.{Result}
 use Rattle.capture_model.specs.Capture.{IsLast, Step}
 use Rattle.frame_classes.specs.Frames.{Classes, placed_by}
@@ -35,27 +35,31 @@ CameOf c capture taken written (Err unmarked.Read) = (last : Step) × IsLast las
 CameOf c capture taken written (Err unmarked.Write) = Unit {0}
 CameOf c capture taken written (Err unmarked.NoMemory) = Unit {0}
 
--- a capture was written so: these bytes of what becomes of it, in order; at most 262,160 bytes more were taken of it
-pub record HasMarked (old new : View) (from to : ℕ) (rest : Bool) (c : Conditioning) (capture : List ℕ) (r : Result ⊤ Unmarked) : Type 0 where
+-- a capture was written so behind what a name held: these bytes of what becomes of it, in order; at most 262,160 bytes more were taken of it
+pub record HasMarked (was now : Option (List ℕ)) (c : Conditioning) (capture : List ℕ) (r : Result ⊤ Unmarked) : Type 0 where
   pub written : List ℕ
-  pub grown : (before : List ℕ) → old.bytes (old.name to) ≡ Some before → new.bytes (old.name to) ≡ Some (before ++ written)
+  pub grown : (before : List ℕ) → was ≡ Some before → now ≡ Some (before ++ written)
   pub front : (tail : List ℕ) × (marked c capture ≡ written ++ tail)
   pub taken : List ℕ
   pub left : List ℕ
   pub split : capture ≡ taken ++ left
-  pub leaves : rest ≡ true → new.left from ≡ Some left
   pub few : length taken ≤ length written + 262160
   pub came : CameOf c capture taken written r
+
+-- so under the name of one file, and another has left what was not taken, where the capture ends with what it had
+abbrev pub AreMarked : View → View → (from to : ℕ) → (rest : Bool) → (c : Conditioning) → (capture : List ℕ) → Result ⊤ Unmarked → Type 0
+AreMarked old new from to rest c capture r =
+    (h : HasMarked (old.bytes (old.name to)) (new.bytes (old.name to)) c capture r) × (rest ≡ true → new.left from ≡ Some h.left)
 
 -- so of the bytes that a marker has taken, and of those that the file has left
 abbrev pub MarksLeft : View → View → (from to : ℕ) → Marking Classes → Result ⊤ Unmarked → Type 0
 MarksLeft old new from to m r = IsTrue old.tells → (c : Conditioning) (first : List ℕ) → IsAtRecordEnd placed_by c first [] m
-    → (left : List ℕ) → old.left from ≡ Some left → HasMarked old new from to true c (first ++ left) r
+    → (left : List ℕ) → old.left from ≡ Some left → AreMarked old new from to true c (first ++ left) r
 
 -- so of a front and, where that follows, of what the file has left
 abbrev pub Marks : View → View → (from to : ℕ) → (rest : Bool) → (front : List ℕ) → Marking Classes → Result ⊤ Unmarked → Type 0
 Marks old new from to rest front m r = IsTrue old.tells → (c : Conditioning) → IsAtRecordEnd placed_by c (if rest then front else []) [] m
-    → (capture : List ℕ) → with_front true rest front (old.left from) ≡ Some capture → HasMarked old new from to rest c capture r
+    → (capture : List ℕ) → with_front true rest front (old.left from) ≡ Some capture → AreMarked old new from to rest c capture r
 
 -- nothing but the two files changes
 pub record Stays (old new : View) (from to : ℕ) : Type 0 where
@@ -74,8 +78,7 @@ unmarked_failure unmarked.NoMemory = failure.NoMemory
 -- what trouble with a read, and with a write, means; no read fails of a capture that is in memory
 abbrev pub read_trouble : (streamed : Bool) → Trouble → Unmarked
 read_trouble true trouble.Failed = unmarked.Read
-read_trouble false trouble.Failed = unmarked.NoMemory
-read_trouble streamed trouble.NoMemory = unmarked.NoMemory
+read_trouble streamed other = unmarked.NoMemory
 
 abbrev pub write_trouble : Trouble → Unmarked
 write_trouble trouble.Failed = unmarked.Write

@@ -1,8 +1,7 @@
 -- How a verification ends, by how far it went.
-use Rattle.std.proofs.Common.{◌≡◌, ◌≤◌, ◌∙◌, ◌⊎◌, ◌++◌, inl, inr, ℕ, Option, List, [], ◌∷◌, map, None, Some, Ok, Err, ap, refl, sym, subst, arith}
+use Rattle.std.proofs.Common.{◌≡◌, ◌≤◌, ◌∙◌, ◌⊎◌, ◌++◌, inl, inr, ℕ, List, [], ◌∷◌, map, None, Some, Ok, Err, ap, refl, sym, subst, arith}
 use Rattle.std.specs.Prelude.{IsTrue}
 use Rattle.capture_model.specs.Capture.{End, Fault, Limit, Reads, Record, Step}
-use Rattle.arrivals_source.specs.Counted.{IsNoLonger}
 use Rattle.conf_laws.specs.Fit.{IsInterface}
 use Rattle.conf_laws.specs.Laws.{ConfigurationsFit}
 use Rattle.conf_tree.specs.declared.interface.Interface.{Interface}
@@ -45,10 +44,10 @@ use Rattle.command_form.proofs.EndsLaws.{done_ends, memory_ends, own_ends, unrea
 use Rattle.command_form.proofs.HadLaws.{is_given}
 use Rattle.command_form.proofs.FitLemmas.{accepted_fits}
 use Rattle.verify_command.specs.Lines.{verdict_text}
-use Rattle.verify_command.specs.Reading.{ArrivalCauses, FileCauses, HoldsFates, MayHaveRead, OfPlayed, ReadSome, WasRead, refutation}
+use Rattle.verify_command.specs.Reading.{ArrivalCauses, FileCauses, HoldsFates, MayHaveRead, OfPlayed, ReadOn, WasRead, refutation}
 use Rattle.verify_command.specs.Verifying.{AreGivenFiles, ArrivalsEndWith, HasDepartures, HasReading, HasVerified, Holds, IsLong, IsVerified, VerifyDone, VerifyEnds, VerifyExpected, VerifyLeaves, VerifyOwn, verify_command}
-use Rattle.verify_command.proofs.OneLemmas.{expected_ready, one_expected}
-use Rattle.verify_command.proofs.PassLemmas.{Ended, Passed, departures_behind, ended, fates_behind, inputs, not_opened, passed_inputs, passed_read, passed_said, passed_some, passed_unchanged, read_said, since}
+use Rattle.verify_command.proofs.OneLemmas.{expected_ready, given_as, one_expected}
+use Rattle.verify_command.proofs.PassLemmas.{AreBehind, Ended, Passed, departures_behind, ended, fates_behind, inputs, not_opened, passed_inputs, passed_read, passed_said, passed_some, passed_unchanged, read_said, since}
 
 -- WHAT MUST COME where a failure of its own did
 as_or : (o p : Outcome) → o ≡ p → IsOr o p
@@ -113,62 +112,14 @@ unready n u v y come x =
     untouched : (q : ℕ) → 3 ≤ q → Untouched u v q
     untouched q h f fresh e = not_input n q h ((files_end (inputs n) u v come.along (come.few, (tt, tt))).parts f q fresh e)
 
--- THE ARRIVALS are not had, or are
-played : (n : GivenNames) (u v : View) (i : Interface) (r : ReadConf) (x : Arrivals) (P : Interface → List ℕ → Type 0)
-    → (h : AreHad (verify_command n).asked n.arrivals u v r x) → h.configured.found ≡ i → OfPlayed v x (P i) → IsTrue u.tells
-    → IsGiven u (verify_command n).asked (λ j g. (j ≡ i) × P j g.capture)
-played n u v i r x P h same of t =
-    let g = h.given t in
-    let Q : Interface → Type 0 = λ j. (j ≡ i) × P j g.follows.bytes in
-    is_given u v (verify_command n).asked n.arrivals r x (λ j c. (j ≡ i) × P j c.capture) refl h t
-    (subst Q (sym same) (refl, of (h.came.keeps.tells ∙ t) g.follows.bytes g.follows.left))
+-- THE INPUTS are had
+pub record HasInputs (n : GivenNames) (u v : View) (i : Interface) (r : ReadConf) (x : Arrivals) : Type 0 where
+  pub come : HaveCome (verify_command n).asked u v
+  pub had : AreHad (verify_command n).asked n.arrivals u v r x
+  pub found : interface_of n.interface r.conf ≡ Some i
 
-stops : (n : GivenNames) (u v : View) (i : Interface) (r : ReadConf) (x : Arrivals) (last : Step)
-    → (h : AreHad (verify_command n).asked n.arrivals u v r x) → h.configured.found ≡ i → OfPlayed v x (λ bytes. HasReading (marked_in i bytes) last)
-    → IsTrue u.tells → ArrivalsEndWith u n last
-stops n u v i r x last h same of t =
-    let y = played n u v i r x (λ j bytes. HasReading (marked_in j bytes) last) h same of t in
-    record { inputs = y.inputs; ready = y.ready; given = y.given; is_given = y.is_given; holds = y.holds.1 }
-
-arrivals_own : (n : GivenNames) (u v w : View) (i : Interface) (r : ReadConf) (x : Arrivals) (f : Failure)
-    → (h : AreHad (verify_command n).asked n.arrivals u v r x) → h.configured.found ≡ i → Within 2 (verify_command n) u w
-    → ArrivalCauses v w i x f → MayFail u w n f
-arrivals_own n u v w i r x (failure.Capture link.Sole (capture.Damage d)) h same within c = inr (within, stops n u v i r x (Fault d) h same c)
-arrivals_own n u v w i r x (failure.Capture link.Sole capture.TooLong) h same within c = inr (within, stops n u v i r x Limit h same c)
-arrivals_own n u v w i r x (failure.Read part.Arrivals) h same within c =
-    inr (within, rose_later _ _ _ (h.came.keeps.later.read 2) (c 2 h.came.are.1.0.part))
-arrivals_own n u v w i r x failure.NoMemory h same within c = inl refl
-arrivals_own n u v w i r x other h same within c = absurd c
-
-same_some : (o : Option Interface) (i j : Interface) → o ≡ Some i → o ≡ Some j → i ≡ j
-same_some o i j e f = same i j (sym e ∙ f)
-  where
-    same : (i j : Interface) → Some i ≡ Some j → i ≡ j
-    same i j h = cc
-
-same_found : (n : GivenNames) (u v : View) (i : Interface) (r : ReadConf) (x : Arrivals) (h : AreHad (verify_command n).asked n.arrivals u v r x)
-    → interface_of n.interface r.conf ≡ Some i → h.configured.found ≡ i
-same_found n u v i r x h found = same_some (interface_of n.interface r.conf) h.configured.found i h.accepted.found found
-
--- the interface that is found has its numbers in their ranges
-pub found_fits : (fit : ConfigurationsFit) (n : GivenNames) (u v : View) (i : Interface) (r : ReadConf) (x : Arrivals)
-    → AreHad (verify_command n).asked n.arrivals u v r x → interface_of n.interface r.conf ≡ Some i → IsInterface i
-found_fits fit n u v i r x h found =
-    subst (λ (j : Interface). IsInterface j) (same_found n u v i r x h found)
-    (accepted_fits fit u (verify_command n).asked r.conf h.configured h.accepted)
-
-pub arrivals_fail : (fit : ConfigurationsFit) (n : GivenNames) (u v w : View) (i : Interface) (r : ReadConf) (x : Arrivals) (f : Failure)
-    → HaveCome (verify_command n).asked u v → (h : AreHad (verify_command n).asked n.arrivals u v r x) → interface_of n.interface r.conf ≡ Some i
-    → ReadSome v w x.file → IsNoLonger v w x.file → ArrivalCauses v w i x f → VerifyEnds u w n (Err f)
-arrivals_fail fit n u v w i r x f come h found some less c =
-    let p = passed_some n u v w r.file x.file (passed_inputs n u v r x come h) some less in
-    fails fit n u w f (ended n u w (inputs n) _ (r.file ∷ x.file ∷ []) p refl) (some.said ∙ come.said)
-    (arrivals_own n u v w i r x f h (same_found n u v i r x h found)
-    (files_end (inputs n) u w (came_all (inputs n) (r.file ∷ x.file ∷ []) u w p.came) (p.few, (tt, tt))) c)
-    (record {
-      departures = λ t. inl (not_opened n u w (inputs n) (r.file ∷ x.file ∷ []) 3 p (p.few, (tt, tt)) (not_input n 3 (omega arith)));
-      fates = λ t. inl (not_opened n u w (inputs n) (r.file ∷ x.file ∷ []) 4 p (p.few, (tt, tt)) (not_input n 4 (omega arith)));
-    })
+same_some : (i j : Interface) → Some i ≡ Some j → i ≡ j
+same_some i j e = cc
 
 -- these records are those of the marked arrivals
 pub record HasRecords (u : View) (n : GivenNames) (i : Interface) (answers : List Shown) : Type 0 where
@@ -176,21 +127,79 @@ pub record HasRecords (u : View) (n : GivenNames) (i : Interface) (answers : Lis
   pub given : IsGiven u (verify_command n).asked (λ j g. (j ≡ i) × Reads (marked_in j g.capture) records End)
   pub shown : answers ≡ map shown_of records
 
-pub has_records : (n : GivenNames) (u v : View) (i : Interface) (r : ReadConf) (x : Arrivals) (answers : List Shown)
-    → (h : AreHad (verify_command n).asked n.arrivals u v r x) → h.configured.found ≡ i
-    → OfPlayed v x (λ bytes. AreRecords (marked_in i bytes) answers) → IsTrue u.tells → HasRecords u n i answers
-has_records n u v i r x answers h same of t =
-    let y = played n u v i r x (λ j bytes. AreRecords (marked_in j bytes) answers) h same of t in
-    record {
-      records = y.holds.1.records;
-      given = record { inputs = y.inputs; ready = y.ready; given = y.given; is_given = y.is_given; holds = (y.holds.0, y.holds.1.capture) };
-      shown = y.holds.1.are;
-    }
-
 records_end : (u : View) (n : GivenNames) (i : Interface) (answers : List Shown) → HasRecords u n i answers → ArrivalsEndWith u n End
-records_end u n i answers x =
-    let y = x.given in
-    record { inputs = y.inputs; ready = y.ready; given = y.given; is_given = y.is_given; holds = (x.records, y.holds.1) }
+records_end u n i answers x = given_as u (verify_command n).asked _ _ (λ j g h. (x.records, h.1)) x.given
+
+-- HOW FAR IT WENT: the files of these places came to be, and this is had where the files tell
+pub record WentFar (n : GivenNames) (u v : View) (places : List Place) (Had : Type 0) : Type 0 where
+  pub files : List ℕ
+  pub passed : Passed n u v places files
+  pub said : v.said ≡ u.said
+  pub counts : SameCounts u v
+  pub had : IsTrue u.tells → Had
+
+-- behind arrivals that are had
+abbrev pub AtArrivals : GivenNames → View → View → Interface → List Shown → Type 0
+AtArrivals n u v i answers = WentFar n u v (inputs n) (HasRecords u n i answers)
+
+module _ (fit : ConfigurationsFit) (n : GivenNames) {u v : View} {i : Interface} {r : ReadConf} {x : Arrivals} (h : HasInputs n u v i r x) where
+  same : h.had.configured.found ≡ i
+  same = same_some h.had.configured.found i (sym h.had.accepted.found ∙ h.found)
+
+  -- the interface that is found has its numbers in their ranges
+  pub found_fits : IsInterface i
+  found_fits = subst (λ (j : Interface). IsInterface j) same (accepted_fits fit u (verify_command n).asked r.conf h.had.configured h.had.accepted)
+
+  played : (P : Interface → List ℕ → Type 0) → OfPlayed v x (P i) → IsTrue u.tells → IsGiven u (verify_command n).asked (λ j g. (j ≡ i) × P j g.capture)
+  played P of t =
+      let g = h.had.given t in
+      let Q : Interface → Type 0 = λ j. (j ≡ i) × P j g.follows.bytes in
+      is_given u v (verify_command n).asked n.arrivals r x (λ j c. (j ≡ i) × P j c.capture) refl h.had t
+      (subst Q (sym same) (refl, of (h.had.came.keeps.tells ∙ t) g.follows.bytes g.follows.left))
+
+  stops : (last : Step) → OfPlayed v x (λ bytes. HasReading (marked_in i bytes) last) → IsTrue u.tells → ArrivalsEndWith u n last
+  stops last of t = given_as u (verify_command n).asked _ _ (λ j g y. y.1) (played (λ j bytes. HasReading (marked_in j bytes) last) of t)
+
+  arrivals_own : (w : View) (f : Failure) → Within 2 (verify_command n) u w → ArrivalCauses v w i x f → MayFail u w n f
+  arrivals_own w (failure.Capture link.Sole (capture.Damage d)) within c = inr (within, stops (Fault d) c)
+  arrivals_own w (failure.Capture link.Sole capture.TooLong) within c = inr (within, stops Limit c)
+  arrivals_own w (failure.Read part.Arrivals) within c = inr (within, rose_later _ _ _ (h.had.came.keeps.later.read 2) (c 2 h.had.came.are.1.0.part))
+  arrivals_own w failure.NoMemory within c = inl refl
+  arrivals_own w other within c = absurd c
+
+  -- THE ARRIVALS are not had, or are
+  passed_arrivals : (w : View) → ReadOn v w x.file → Passed n u w (inputs n) (r.file ∷ x.file ∷ [])
+  passed_arrivals w on = passed_some n u v w r.file x.file (passed_inputs n u v r x h.come h.had) on.some on.fewer
+
+  pub arrivals_fail : (w : View) (f : Failure) → ReadOn v w x.file → ArrivalCauses v w i x f → VerifyEnds u w n (Err f)
+  arrivals_fail w f on c =
+      let p = passed_arrivals w on in
+      let files = r.file ∷ x.file ∷ [] in
+      fails fit n u w f (ended n u w (inputs n) _ files p refl) (on.some.said ∙ h.come.said)
+      (arrivals_own w f (files_end (inputs n) u w (came_all (inputs n) files u w p.came) (p.few, (tt, tt))) c)
+      (record {
+        departures = λ t. inl (not_opened n u w (inputs n) files 3 p (p.few, (tt, tt)) (not_input n 3 (omega arith)));
+        fates = λ t. inl (not_opened n u w (inputs n) files 4 p (p.few, (tt, tt)) (not_input n 4 (omega arith)));
+      })
+
+  has_records : (answers : List Shown) → OfPlayed v x (λ bytes. AreRecords (marked_in i bytes) answers) → IsTrue u.tells → HasRecords u n i answers
+  has_records answers of t =
+      let y = played (λ j bytes. AreRecords (marked_in j bytes) answers) of t in
+      record {
+        records = y.holds.1.records;
+        given = record { inputs = y.inputs; ready = y.ready; given = y.given; is_given = y.is_given; holds = (y.holds.0, y.holds.1.capture) };
+        shown = y.holds.1.are;
+      }
+
+  pub at_arrivals : (w : View) (answers : List Shown) → OfPlayed v x (λ bytes. AreRecords (marked_in i bytes) answers) → ReadOn v w x.file
+      → SameCounts u v → SameCounts v w → AtArrivals n u w i answers
+  at_arrivals w answers of on before counts = record {
+    files = r.file ∷ x.file ∷ [];
+    passed = passed_arrivals w on;
+    said = on.some.said ∙ h.come.said;
+    counts = same_trans u v w before counts;
+    had = has_records answers of;
+  }
 
 -- ONE OF THE OTHER FILES is not had
 cannot_since : (u v w : View) (part : Part) (name : List ℕ) → Keeps Everything Everything u v → CannotRead v w part name → CannotRead u w part name
@@ -231,56 +240,52 @@ not_fates n (inr (inl e)) = omega (arith, e)
 not_fates n (inr (inr (inl e))) = omega (arith, e)
 not_fates n (inr (inr (inr e))) = absurd e
 
--- behind arrivals that are had
-pub record AtArrivals (n : GivenNames) (u v : View) (i : Interface) (answers : List Shown) : Type 0 where
-  pub conf : ℕ
-  pub arrivals : ℕ
-  pub passed : Passed n u v (inputs n) (conf ∷ arrivals ∷ [])
-  pub said : v.said ≡ u.said
-  pub counts : SameCounts u v
-  pub has : IsTrue u.tells → HasRecords u n i answers
+-- behind departures that are had too
+abbrev pub AtDepartures : GivenNames → View → View → Interface → List Shown → (bytes : List ℕ) → Type 0
+AtDepartures n u v i answers bytes = WentFar n u v (with_departures n) (HasRecords u n i answers × Holds u n.departures bytes)
 
-pub at_arrivals : (n : GivenNames) (u v w : View) (i : Interface) (r : ReadConf) (x : Arrivals) (answers : List Shown) → HaveCome (verify_command n).asked u v
-    → (h : AreHad (verify_command n).asked n.arrivals u v r x) → interface_of n.interface r.conf ≡ Some i
-    → OfPlayed v x (λ bytes. AreRecords (marked_in i bytes) answers) → ReadSome v w x.file → IsNoLonger v w x.file → SameCounts u v → SameCounts v w
-    → AtArrivals n u w i answers
-at_arrivals n u v w i r x answers come h found of some less before counts = record {
-  conf = r.file;
-  arrivals = x.file;
-  passed = passed_some n u v w r.file x.file (passed_inputs n u v r x come h) some less;
-  said = some.said ∙ come.said;
-  counts = same_trans u v w before counts;
-  has = has_records n u v i r x answers h (same_found n u v i r x h found) of;
+-- one more file is had
+went_on : {n : GivenNames} {u v w : View} {places : List Place} {Had More : Type 0} (d : Part) (name : List ℕ) → AreBehind (read_place d name ∷ [])
+    → WentFar n u v places Had → WasRead v w (read_place d name) → SameCounts v w → (IsTrue u.tells → Had → More)
+    → WentFar n u w (places ++ read_place d name ∷ []) More
+went_on {n = n} {u = u} {v = v} {w = w} {places = places} d name b at read counts more = record {
+  files = at.files ++ read.file ∷ [];
+  passed = passed_read n u v w places at.files d name b at.passed read;
+  said = read_said v w (read_place d name) read ∙ at.said;
+  counts = same_trans u v w at.counts counts;
+  had = λ t. more t (at.had t);
 }
 
-pub departures_fail : (fit : ConfigurationsFit) (n : GivenNames) (u v w : View) (i : Interface) (answers : List Shown) (f : Failure)
-    → AtArrivals n u v i answers → MayHaveRead v w (read_place part.Departures n.departures) → FileCauses v w part.Departures n.departures f
-    → VerifyEnds u w n (Err f)
-departures_fail fit n u v w i answers f at tried c = by tried
-  where
-    end : IsTrue u.tells → ArrivalsEndWith u n End
-    end t = records_end u n i answers (at.has t)
+module _ (fit : ConfigurationsFit) {n : GivenNames} {u v : View} {i : Interface} {answers : List Shown} (w : View) (at : AtArrivals n u v i answers) where
+  all_kept : Keeps Everything Everything u v
+  all_kept = since n u v (inputs n) at.files at.passed (λ m. (tt, (tt, tt)))
 
-    own : MayFail u w n f
-    own =
-        file_own n u v w part.Departures n.departures f (since n u v (inputs n) (at.conf ∷ at.arrivals ∷ []) at.passed (λ m. (tt, (tt, tt)))) (λ y. (y, end))
-        (λ y t. record { arrivals = end t; long = y t }) c
+  pub departures_fail : (f : Failure) → MayHaveRead v w (read_place part.Departures n.departures) → FileCauses v w part.Departures n.departures f
+      → VerifyEnds u w n (Err f)
+  departures_fail f tried c = by tried
+    where
+      end : IsTrue u.tells → ArrivalsEndWith u n End
+      end t = records_end u n i answers (at.had t)
 
-    by : MayHaveRead v w (read_place part.Departures n.departures) → VerifyEnds u w n (Err f)
-    by (inl y) =
-        let q = passed_read n u v w (inputs n) (at.conf ∷ at.arrivals ∷ []) part.Departures n.departures (departures_behind n.departures) at.passed y in
-        fails fit n u w f (ended n u w (with_departures n) _ (at.conf ∷ at.arrivals ∷ y.file ∷ []) q refl) (read_said v w _ y ∙ at.said) own
-        (record {
-          departures = λ t. inr (end t);
-          fates = λ t. inl (not_opened n u w (with_departures n) (at.conf ∷ at.arrivals ∷ y.file ∷ []) 4 q (q.few, (tt, (tt, tt))) (not_fates n));
-        })
-    by (inr y) =
-        let q = passed_unchanged n u v w (inputs n) (at.conf ∷ at.arrivals ∷ []) at.passed y in
-        fails fit n u w f (ended n u w (inputs n) _ (at.conf ∷ at.arrivals ∷ []) q refl) (y.said ∙ at.said) own
-        (record {
-          departures = λ t. inr (end t);
-          fates = λ t. inl (not_opened n u w (inputs n) (at.conf ∷ at.arrivals ∷ []) 4 q (q.few, (tt, tt)) (not_input n 4 (omega arith)));
-        })
+      own : MayFail u w n f
+      own = file_own n u v w part.Departures n.departures f all_kept (λ y. (y, end)) (λ y t. record { arrivals = end t; long = y t }) c
+
+      by : MayHaveRead v w (read_place part.Departures n.departures) → VerifyEnds u w n (Err f)
+      by (inl y) =
+          let files = at.files ++ y.file ∷ [] in
+          let q = passed_read n u v w (inputs n) at.files part.Departures n.departures (departures_behind n.departures) at.passed y in
+          fails fit n u w f (ended n u w (with_departures n) _ files q refl) (read_said v w _ y ∙ at.said) own
+          (record { departures = λ t. inr (end t); fates = λ t. inl (not_opened n u w (with_departures n) files 4 q (q.few, (tt, (tt, tt))) (not_fates n)) })
+      by (inr y) =
+          let files = at.files ++ [] in
+          let q = passed_unchanged n u v w (inputs n) at.files at.passed y in
+          fails fit n u w f (ended n u w (inputs n) _ files q refl) (y.said ∙ at.said) own
+          (record { departures = λ t. inr (end t); fates = λ t. inl (not_opened n u w (inputs n) files 4 q (q.few, (tt, tt)) (not_input n 4 (omega arith))) })
+
+  pub at_departures : (bytes : List ℕ) → WasRead v w (read_place part.Departures n.departures) → (IsTrue v.tells → Holds v n.departures bytes)
+      → SameCounts v w → AtDepartures n u w i answers bytes
+  at_departures bytes read holds counts =
+      went_on part.Departures n.departures (departures_behind n.departures) at read counts (λ t h. (h, holds_since u v n.departures bytes all_kept holds t))
 
 pub has_departures : (u : View) (n : GivenNames) (i : Interface) (answers : List Shown) (bytes : List ℕ) → HasRecords u n i answers
     → Holds u n.departures bytes → HasDepartures u n
@@ -294,60 +299,42 @@ leaves_on u w n h = record { departures = λ t. inr (h t).arrivals; fates = λ t
 abbrev pub all_places : GivenNames → List Place
 all_places n = (verify_command n).plan
 
--- behind departures that are had too
-pub record AtDepartures (n : GivenNames) (u v : View) (i : Interface) (answers : List Shown) (bytes : List ℕ) : Type 0 where
-  pub conf : ℕ
-  pub arrivals : ℕ
-  pub departures : ℕ
-  pub passed : Passed n u v (with_departures n) (conf ∷ arrivals ∷ departures ∷ [])
-  pub said : v.said ≡ u.said
-  pub counts : SameCounts u v
-  pub has : IsTrue u.tells → HasRecords u n i answers
-  pub holds : IsTrue u.tells → Holds u n.departures bytes
-
-pub at_departures : (n : GivenNames) (u v w : View) (i : Interface) (answers : List Shown) (bytes : List ℕ) → AtArrivals n u v i answers
-    → WasRead v w (read_place part.Departures n.departures) → (IsTrue v.tells → Holds v n.departures bytes) → SameCounts v w
-    → AtDepartures n u w i answers bytes
-at_departures n u v w i answers bytes at read holds counts = record {
-  conf = at.conf;
-  arrivals = at.arrivals;
-  departures = read.file;
-  passed = passed_read n u v w (inputs n) (at.conf ∷ at.arrivals ∷ []) part.Departures n.departures (departures_behind n.departures) at.passed read;
-  said = read_said v w (read_place part.Departures n.departures) read ∙ at.said;
-  counts = same_trans u v w at.counts counts;
-  has = at.has;
-  holds = holds_since u v n.departures bytes (since n u v (inputs n) (at.conf ∷ at.arrivals ∷ []) at.passed (λ m. (tt, (tt, tt)))) holds;
-}
-
-pub fates_fail : (fit : ConfigurationsFit) (n : GivenNames) (u v w : View) (i : Interface) (answers : List Shown) (bytes : List ℕ) (f : Failure)
-    → AtDepartures n u v i answers bytes → MayHaveRead v w (read_place part.Fates n.fates) → FileCauses v w part.Fates n.fates f
-    → VerifyEnds u w n (Err f)
-fates_fail fit n u v w i answers bytes f at tried c = by tried
-  where
-    files : List ℕ
-    files = at.conf ∷ at.arrivals ∷ at.departures ∷ []
-
-    has : IsTrue u.tells → HasDepartures u n
-    has t = has_departures u n i answers bytes (at.has t) (at.holds t)
-
-    own : MayFail u w n f
-    own =
-        file_own n u v w part.Fates n.fates f (since n u v (with_departures n) files at.passed (λ m. (tt, (tt, (tt, tt))))) (λ z. (z, has))
-        (λ z t. record { departures = has t; long = z t }) c
-
-    by : MayHaveRead v w (read_place part.Fates n.fates) → VerifyEnds u w n (Err f)
-    by (inl z) =
-        let q = passed_read n u v w (with_departures n) files part.Fates n.fates (fates_behind n.fates) at.passed z in
-        fails fit n u w f (ended n u w (all_places n) [] (files ++ z.file ∷ []) q refl) (read_said v w _ z ∙ at.said) own (leaves_on u w n has)
-    by (inr z) =
-        let q = passed_unchanged n u v w (with_departures n) files at.passed z in
-        fails fit n u w f (ended n u w (with_departures n) _ files q refl) (z.said ∙ at.said) own (leaves_on u w n has)
-
 -- ALL ARE HAD
 pub record AllHad (u : View) (n : GivenNames) (i : Interface) (answers : List Shown) (departures : List ℕ) (fates : Fates) : Type 0 where
   pub arrivals : HasRecords u n i answers
   pub departures_had : Holds u n.departures departures
   pub fates_had : HoldsFates u i n.fates fates
+
+abbrev pub AtFates : GivenNames → View → View → Interface → List Shown → (departures : List ℕ) → Fates → Type 0
+AtFates n u v i answers departures fates = WentFar n u v (all_places n) (AllHad u n i answers departures fates)
+
+module _ (fit : ConfigurationsFit) {n : GivenNames} {u v : View} {i : Interface} {answers : List Shown} {bytes : List ℕ} (w : View)
+    (at : AtDepartures n u v i answers bytes) where
+  kept_all : Keeps Everything Everything u v
+  kept_all = since n u v (with_departures n) at.files at.passed (λ m. (tt, (tt, (tt, tt))))
+
+  pub fates_fail : (f : Failure) → MayHaveRead v w (read_place part.Fates n.fates) → FileCauses v w part.Fates n.fates f → VerifyEnds u w n (Err f)
+  fates_fail f tried c = by tried
+    where
+      has : IsTrue u.tells → HasDepartures u n
+      has t = has_departures u n i answers bytes (at.had t).0 (at.had t).1
+
+      own : MayFail u w n f
+      own = file_own n u v w part.Fates n.fates f kept_all (λ z. (z, has)) (λ z t. record { departures = has t; long = z t }) c
+
+      by : MayHaveRead v w (read_place part.Fates n.fates) → VerifyEnds u w n (Err f)
+      by (inl z) =
+          let q = passed_read n u v w (with_departures n) at.files part.Fates n.fates (fates_behind n.fates) at.passed z in
+          fails fit n u w f (ended n u w (all_places n) [] (at.files ++ z.file ∷ []) q refl) (read_said v w _ z ∙ at.said) own (leaves_on u w n has)
+      by (inr z) =
+          let q = passed_unchanged n u v w (with_departures n) at.files at.passed z in
+          fails fit n u w f (ended n u w (with_departures n) _ (at.files ++ []) q refl) (z.said ∙ at.said) own (leaves_on u w n has)
+
+  pub went_far : (fates : Fates) → WasRead v w (read_place part.Fates n.fates) → (IsTrue v.tells → HoldsFates v i n.fates fates) → SameCounts v w
+      → AtFates n u w i answers bytes fates
+  went_far fates read holds counts =
+      went_on part.Fates n.fates (fates_behind n.fates) at read counts
+      (λ t h. record { arrivals = h.0; departures_had = h.1; fates_had = fates_since u v i n.fates fates kept_all holds t })
 
 abbrev given_by : (i : Interface) (records : List Record) (departures fates : List ℕ) → JudgedFiles
 given_by i records departures fates = record { interface = i; records = records; departures = departures; fates = fates }
@@ -382,34 +369,8 @@ all_departures : (u : View) (n : GivenNames) (i : Interface) (answers : List Sho
     → HasDepartures u n
 all_departures u n i answers departures fates h = has_departures u n i answers departures h.arrivals h.departures_had
 
--- where all were opened: as far as it went, behind files that are had
-pub record WentFar (n : GivenNames) (u v : View) (i : Interface) (answers : List Shown) (departures : List ℕ) (fates : Fates) : Type 0 where
-  pub files : List ℕ
-  pub passed : Passed n u v (all_places n) files
-  pub said : v.said ≡ u.said
-  pub counts : SameCounts u v
-  pub had : IsTrue u.tells → AllHad u n i answers departures fates
-
-pub went_far : (n : GivenNames) (u v w : View) (i : Interface) (answers : List Shown) (bytes : List ℕ) (fates : Fates) → AtDepartures n u v i answers bytes
-    → WasRead v w (read_place part.Fates n.fates) → (IsTrue v.tells → HoldsFates v i n.fates fates) → SameCounts v w
-    → WentFar n u w i answers bytes fates
-went_far n u v w i answers bytes fates at read holds counts = record {
-  files = files ++ read.file ∷ [];
-  passed = passed_read n u v w (with_departures n) files part.Fates n.fates (fates_behind n.fates) at.passed read;
-  said = read_said v w (read_place part.Fates n.fates) read ∙ at.said;
-  counts = same_trans u v w at.counts counts;
-  had = λ t. record {
-    arrivals = at.has t;
-    departures_had = at.holds t;
-    fates_had = fates_since u v i n.fates fates (since n u v (with_departures n) files at.passed (λ m. (tt, (tt, (tt, tt))))) holds t;
-  };
-}
-  where
-    files : List ℕ
-    files = at.conf ∷ at.arrivals ∷ at.departures ∷ []
-
-module _ (fit : ConfigurationsFit) (n : GivenNames) (u v : View) (i : Interface) (answers : List Shown) (departures : List ℕ) (fates : Fates)
-    (x : WentFar n u v i answers departures fates) where
+module _ (fit : ConfigurationsFit) {n : GivenNames} {u v : View} {i : Interface} {answers : List Shown} {departures : List ℕ} {fates : Fates}
+    (x : AtFates n u v i answers departures fates) where
   leaves : (w : View) → VerifyLeaves u w n
   leaves w = leaves_on u w n (λ t. all_departures u n i answers departures fates (x.had t))
 

@@ -1,6 +1,6 @@
 -- What the files say must come is one outcome.
 use Rattle.std.proofs.Common.{◌≡◌, ◌∙◌, ◌⊎◌, inl, inr, ℕ, List, length, None, Some, Ok, Err, ap, refl, sym, subst, arith}
-use Rattle.capture_model.specs.Capture.{End, Fault, IsLast, Limit, Next, Reads, Record, Step}
+use Rattle.capture_model.specs.Capture.{End, Fault, IsLast, Limit, Reads, Record, Step}
 use Rattle.conf_laws.specs.Fit.{IsInterface}
 use Rattle.conf_laws.specs.Laws.{ConfigurationsFit}
 use Rattle.conf_tree.specs.declared.interface.Interface.{Interface}
@@ -43,6 +43,11 @@ again v a P Q x y =
     let S : Given → Type 0 = λ g. P x.inputs.configured.found g in
     subst R (ap (λ (z : Inputs). z.configured.found) same) (subst S given x.holds)
 
+-- and what follows of it
+pub given_as : (v : View) (a : Asked) (P Q : Interface → Given → Type 0) → ((i : Interface) (g : Given) → P i g → Q i g) → IsGiven v a P → IsGiven v a Q
+given_as v a P Q so x =
+    record { inputs = x.inputs; ready = x.ready; given = x.given; is_given = x.is_given; holds = so x.inputs.configured.found x.given x.holds }
+
 one_last : (v : View) (n : GivenNames) (p q : Step) → IsLast p → IsLast q → ArrivalsEndWith v n p → ArrivalsEndWith v n q → p ≡ q
 one_last v n p q hp hq x y =
     let z = again v (verify_command n).asked (λ i g. HasReading (marked_in i g.capture) p) (λ i g. HasReading (marked_in i g.capture) q) x y in
@@ -50,16 +55,14 @@ one_last v n p q hp hq x y =
 
 -- THE ARRIVALS
 abbrev IsStop : Step → Type 0
-IsStop End = ⊥
-IsStop (Next r after) = ⊥
 IsStop (Fault found) = Unit {0}
 IsStop Limit = Unit {0}
+IsStop other = ⊥
 
 is_last : (s : Step) → IsStop s → IsLast s
-is_last End h = absurd h
-is_last (Next r after) h = absurd h
 is_last (Fault found) h = tt
 is_last Limit h = tt
+is_last other h = absurd h
 
 abbrev end_outcome : Step → Outcome
 end_outcome (Fault found) = Err (failure.Capture link.Sole (capture.Damage found))
@@ -173,7 +176,7 @@ at_fates v n o a x = inr (a.arrivals, inr ((a.bytes, a.departures), x))
 -- where the files are given, the departures are had
 pub given_departures : (v : View) (n : GivenNames) (j : JudgedFiles) → AreGivenFiles v n j → HasDepartures v n
 given_departures v n j a = record {
-  arrivals = (let y = a.arrivals in record { inputs = y.inputs; ready = y.ready; given = y.given; is_given = y.is_given; holds = (j.records, y.holds.1) });
+  arrivals = given_as v (verify_command n).asked _ _ (λ i g h. (j.records, h.1)) a.arrivals;
   bytes = j.departures;
   departures = a.departures;
 }

@@ -1,5 +1,5 @@
 -- It ends where the marked file cannot be created, or as what is written there.
-use Rattle.std.proofs.Common.{◌≡◌, ◌∙◌, ◌∷◌, [], ℕ, List, Option, Some, Err, ap, refl, subst, sym}
+use Rattle.std.proofs.Common.{◌≡◌, ◌∙◌, ◌∷◌, [], ℕ, List, Option, Some, Ok, Err, ap, refl, subst, sym}
 use Rattle.std.specs.Prelude.{◌≢◌, IsSome, IsTrue, Result, ⊤}
 use Rattle.file_plans.specs.declared.part.Part.TheVariants as part
 use Rattle.file_plans.specs.Came.{Came}
@@ -48,7 +48,7 @@ returns-in-Ok-write_marked g c = λ u r h begins q.
     let e = g.F.Files.view c.write_marked.new.files in
     let y = c.in-Ok.ensures in
     let z = c.in-Ok-write_marked.ensures in
-    conditioned u v d e (mark_names_read c.args.words.now) r c.args.arrivals.now c.in-Ok.file c.args.marker.now _
+    conditioned u v d e (mark_names_read c.args.words.now) r c.args.arrivals.now c.in-Ok.file c.args.marker.now (Ok _)
     (record {
       has = h;
       created = y.came;
@@ -60,7 +60,7 @@ returns-in-Ok-write_marked g c = λ u r h begins q.
       marks = z.marks;
       distinct = c.requires.distinct;
     })
-    (same_trans u v e q (same_trans v d e y.counts z.no_fault))
+    _ refl (same_trans u v e q (same_trans v d e y.counts z.no_fault))
 
 pub returns-in-Err : goal.returns-in-Err
 returns-in-Err g c = λ u r h begins q.
@@ -72,7 +72,7 @@ returns-in-Err g c = λ u r h begins q.
     let z = c.in-Err.ensures in
     let P : Failure → Type 0 = λ f. ConditionEnds u e n (Err f) in
     subst P (sym c.unmarked_failure.ensures)
-    (unmarked_ends u v d e n r c.args.arrivals.now c.in-Ok.file c.args.marker.now c.in-Err.why
+    (unmarked_ends u v d e n r c.args.arrivals.now c.in-Ok.file c.args.marker.now (Err c.in-Err.why)
     (record {
       has = h;
       created = y.came;
@@ -84,6 +84,7 @@ returns-in-Err g c = λ u r h begins q.
       marks = z.marks;
       distinct = c.requires.distinct;
     })
+    c.in-Err.why refl
     (record {
       read = λ is. z.read (ap {B = Result ⊤ Unmarked} (λ (w : Unmarked). Err w) is);
       write = λ is. z.write (ap {B = Result ⊤ Unmarked} (λ (w : Unmarked). Err w) is);

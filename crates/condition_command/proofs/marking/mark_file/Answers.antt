@@ -12,7 +12,7 @@ use Rattle.condition_command.specs.declared.marking.Unmarked.{Unmarked}
 use Rattle.condition_command.specs.declared.marking.Unmarked.TheVariants as unmarked
 use Rattle.condition_command.proofs.MovingLemmas.{EndsAs, marks_cut, marks_told, marks_unwritten, on_begun, on_taken, on_wrote, stays_on, stays_wrote}
 use Rattle.condition_command.proofs.marking.mark_file.Given.{Over}
-use Rattle.condition_command.proofs.marking.mark_file.Goals.{In-Err, In-Err-write_all, In_default}
+use Rattle.condition_command.proofs.marking.mark_file.Goals.{In_default}
 use Rattle.condition_command.proofs.marking.mark_file.Goals as goal
 
 pub turns-init : goal.turns-init
@@ -25,32 +25,28 @@ turns-init g c = record {
 
 pub returns-in-Err-clause-marks : goal.returns-in-Err-clause-marks
 returns-in-Err-clause-marks g c =
-    let u = g.F.Files.view c.args.files.now in
-    let v = g.F.Files.view c.turns.files in
-    let w = g.F.Files.view c.next_records.new.files in
-    let m = c.args.marker.now in
-    let o = c.next_records.new.self in
     let y = c.in-Err.ensures in
-    let on = on_taken u v w c.args.from c.args.to m c.turns.marker o c.turns.invariant.on y.taken in
-    let cut = marks_cut u w c.args.from c.args.to m o c.args.streamed c.in-Err.trouble c.requires.apart on y.stays.0 y.stays.1 y.room in
-    let R : Unmarked → Type 0 = λ z. MarksLeft u w c.args.from c.args.to m (Err z) in
+    let cut = marks_cut c.requires.apart (on_taken c.turns.invariant.on y.taken) y.room c.args.streamed c.in-Err.trouble y.stays.0 y.stays.1 in
+    let R : Unmarked → Type 0 =
+    λ z. MarksLeft (g.F.Files.view c.args.files.now) (g.F.Files.view c.next_records.new.files) c.args.from c.args.to c.args.marker.now (Err z) in
     subst R (sym c.read_trouble.ensures) cut
+
+pub returns-in-Err-clause-stays : goal.returns-in-Err-clause-stays
+returns-in-Err-clause-stays g c = stays_on (on_taken c.turns.invariant.on c.in-Err.ensures.taken)
 
 pub returns-in-Err-write_all-clause-marks : goal.returns-in-Err-write_all-clause-marks
 returns-in-Err-write_all-clause-marks g c =
-    let u = g.F.Files.view c.args.files.now in
-    let v = g.F.Files.view c.turns.files in
-    let w = g.F.Files.view c.next_records.new.files in
     let z = g.F.Files.view c.write_all.new.files in
-    let m = c.args.marker.now in
-    let o = c.next_records.new.self in
     let y = c.in-Ok.ensures in
-    let on = on_taken u v w c.args.from c.args.to m c.turns.marker o c.turns.invariant.on y.taken in
-    let P : List ℕ → Type 0 = λ l. WroteFront w z c.args.to l in
-    let front : WroteFront w z c.args.to o.held.ready = subst P c.ready.ensures c.in-Err-write_all.ensures.front in
-    let cut = marks_unwritten u w z c.args.from c.args.to m o c.in-Err-write_all.trouble c.requires.apart on front y.room in
-    let R : Unmarked → Type 0 = λ why. MarksLeft u z c.args.from c.args.to m (Err why) in
+    let P : List ℕ → Type 0 = λ l. WroteFront (g.F.Files.view c.next_records.new.files) z c.args.to l in
+    let cut = marks_unwritten c.requires.apart (on_taken c.turns.invariant.on y.taken) y.room c.in-Err-write_all.trouble
+    (subst P c.ready.ensures c.in-Err-write_all.ensures.front) in
+    let R : Unmarked → Type 0 = λ why. MarksLeft (g.F.Files.view c.args.files.now) z c.args.from c.args.to c.args.marker.now (Err why) in
     subst R (sym c.write_trouble.ensures) cut
+
+pub returns-in-Err-write_all-clause-stays : goal.returns-in-Err-write_all-clause-stays
+returns-in-Err-write_all-clause-stays g c =
+    stays_wrote (on_taken c.turns.invariant.on c.in-Ok.ensures.taken) c.requires.apart c.in-Err-write_all.ensures.front.1
 
 pub turns-preserved : goal.turns-preserved
 turns-preserved g c =
@@ -58,14 +54,10 @@ turns-preserved g c =
     let v = g.F.Files.view c.turns.files in
     let w = g.F.Files.view c.next_records.new.files in
     let z = g.F.Files.view c.write_all.new.files in
-    let m = c.args.marker.now in
-    let o = c.next_records.new.self in
     let y = c.in-Ok.ensures in
-    let on = on_taken u v w c.args.from c.args.to m c.turns.marker o c.turns.invariant.on y.taken in
     let P : List ℕ → Type 0 = λ l. Wrote w z c.args.to l in
-    let wrote : Wrote w z c.args.to o.held.ready = subst P c.ready.ensures c.in_default.ensures.wrote in
     record {
-      on = on_wrote u w z c.args.from c.args.to m o c.give_ready.new.self c.requires.apart on wrote c.give_ready.ensures.stands;
+      on = on_wrote (on_taken c.turns.invariant.on y.taken) c.requires.apart (subst P c.ready.ensures c.in_default.ensures.wrote) c.give_ready.ensures.stands;
       given = ap length c.give_ready.ensures.ready;
       waits = c.give_ready.ensures.waits (y.waits (ap (λ (b : Behind). Ok b) c.in-More.is));
       counts = same_trans u w z (same_trans u v w c.turns.invariant.counts y.counts) c.in_default.ensures.counts;
@@ -75,16 +67,11 @@ turns-preserved g c =
 told : (g : Over) (c : In_default g) (b : Behind) (r : Result ⊤ Unmarked) → c.in-Ok.behind ≡ b → EndsAs b r
     → MarksLeft (g.F.Files.view c.args.files.now) (g.F.Files.view c.write_all.new.files) c.args.from c.args.to c.args.marker.now r
 told g c b r is ends =
-    let u = g.F.Files.view c.args.files.now in
     let w = g.F.Files.view c.next_records.new.files in
-    let z = g.F.Files.view c.write_all.new.files in
-    let m = c.args.marker.now in
-    let o = c.next_records.new.self in
     let y = c.in-Ok.ensures in
-    let on = on_taken u (g.F.Files.view c.turns.files) w c.args.from c.args.to m c.turns.marker o c.turns.invariant.on y.taken in
-    let P : List ℕ → Type 0 = λ l. Wrote w z c.args.to l in
-    let B : Behind → Type 0 = λ x. TellsLeft placed_by w c.args.from o x in
-    marks_told u w z c.args.from c.args.to m o b r c.requires.apart on (subst B is y.tells) (subst P c.ready.ensures c.in_default.ensures.wrote) y.room ends
+    let P : List ℕ → Type 0 = λ l. Wrote w (g.F.Files.view c.write_all.new.files) c.args.to l in
+    let B : Behind → Type 0 = λ x. TellsLeft placed_by w c.args.from c.next_records.new.self x in
+    marks_told c.requires.apart (on_taken c.turns.invariant.on y.taken) y.room b r (subst B is y.tells) (subst P c.ready.ensures c.in_default.ensures.wrote) ends
 
 pub returns-in-End-clause-marks : goal.returns-in-End-clause-marks
 returns-in-End-clause-marks g c =
@@ -99,44 +86,10 @@ pub returns-in-Limit-clause-marks : goal.returns-in-Limit-clause-marks
 returns-in-Limit-clause-marks g c =
     told g (goal.at.returns-in-Limit-clause-marks g c).In_default behind.Limit (Err unmarked.Limit) c.in-Limit.is (λ k capture taken written h. h)
 
--- beside that nothing changed: a read failed, or a write, or all was written
-unread : (g : Over) (c : In-Err g)
-    → Stays (g.F.Files.view c.args.files.now) (g.F.Files.view c.next_records.new.files) c.args.from c.args.to
-unread g c =
-    let u = g.F.Files.view c.args.files.now in
-    let w = g.F.Files.view c.next_records.new.files in
-    let m = c.args.marker.now in
-    let o = c.next_records.new.self in
-    stays_on u w c.args.from c.args.to m o
-    (on_taken u (g.F.Files.view c.turns.files) w c.args.from c.args.to m c.turns.marker o c.turns.invariant.on c.in-Err.ensures.taken)
-
-unwritten : (g : Over) (c : In-Err-write_all g)
-    → Stays (g.F.Files.view c.args.files.now) (g.F.Files.view c.write_all.new.files) c.args.from c.args.to
-unwritten g c =
-    let u = g.F.Files.view c.args.files.now in
-    let w = g.F.Files.view c.next_records.new.files in
-    let m = c.args.marker.now in
-    let o = c.next_records.new.self in
-    let front = c.in-Err-write_all.ensures.front in
-    stays_wrote u w (g.F.Files.view c.write_all.new.files) c.args.from c.args.to m o _ c.requires.apart
-    (on_taken u (g.F.Files.view c.turns.files) w c.args.from c.args.to m c.turns.marker o c.turns.invariant.on c.in-Ok.ensures.taken) front.1
-
+-- beside that nothing changed
 written : (g : Over) (c : In_default g)
     → Stays (g.F.Files.view c.args.files.now) (g.F.Files.view c.write_all.new.files) c.args.from c.args.to
-written g c =
-    let u = g.F.Files.view c.args.files.now in
-    let w = g.F.Files.view c.next_records.new.files in
-    let m = c.args.marker.now in
-    let o = c.next_records.new.self in
-    stays_wrote u w (g.F.Files.view c.write_all.new.files) c.args.from c.args.to m o _ c.requires.apart
-    (on_taken u (g.F.Files.view c.turns.files) w c.args.from c.args.to m c.turns.marker o c.turns.invariant.on c.in-Ok.ensures.taken)
-    c.in_default.ensures.wrote
-
-pub returns-in-Err-clause-stays : goal.returns-in-Err-clause-stays
-returns-in-Err-clause-stays g c = unread g (goal.at.returns-in-Err-clause-stays g c).In-Err
-
-pub returns-in-Err-write_all-clause-stays : goal.returns-in-Err-write_all-clause-stays
-returns-in-Err-write_all-clause-stays g c = unwritten g (goal.at.returns-in-Err-write_all-clause-stays g c).In-Err-write_all
+written g c = stays_wrote (on_taken c.turns.invariant.on c.in-Ok.ensures.taken) c.requires.apart c.in_default.ensures.wrote
 
 pub returns-in-End-clause-stays : goal.returns-in-End-clause-stays
 returns-in-End-clause-stays g c = written g (goal.at.returns-in-End-clause-stays g c).In_default

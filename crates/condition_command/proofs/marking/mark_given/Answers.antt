@@ -1,5 +1,5 @@
 -- What is marked through a source is marked of the files behind it.
-use Rattle.std.proofs.Common.{◌∙◌, List, ℕ, rules, subst}
+use Rattle.std.proofs.Common.{◌≡◌, ◌∙◌, List, ℕ, rules, subst}
 use Rattle.play_base.specs.View.{View}
 use Rattle.condition_command.specs.Marking.{Marks, Stays}
 use Rattle.condition_command.proofs.MovingLemmas.{marks_source, source_reference, stays_source}
@@ -22,7 +22,8 @@ returns-clause-marks g c =
     let back = marks_source v w _ s.files.ghost_name from s.file to front s.front s.way.now m r way y.stays rest c.way_by-way.ensures c.new.ensures.rest y.marks in
     let B : List ℕ → Type 0 = λ l. Marks v w from to rest l m r in
     let Q : View → Type 0 = λ u. Marks v u from to rest c.args.given.now.front.items m r in
-    subst Q (search rules) (subst B (c.new.ensures.bytes ∙ c.as_slice.ensures.value) back)
+    let k : w ≡ g.F.Files.view c.files-1.given.0 = search rules in
+    subst Q k (subst B (c.new.ensures.bytes ∙ c.as_slice.ensures.value) back)
 
 pub returns-clause-stays : goal.returns-clause-stays
 returns-clause-stays g c =
