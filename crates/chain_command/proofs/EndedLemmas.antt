@@ -1,33 +1,51 @@
 -- How a play of a chain ended, told of its link.
-use Rattle.std.proofs.Common.{◌≡◌, ◌≢◌, ◌∙◌, ◌++◌, ℕ, List, None, Some, Ok, Err, subst}
-use Rattle.std.specs.Prelude.{IfErr, IfOk, OnOk}
+use Rattle.std.proofs.Common.{◌≡◌, ◌≢◌, ◌∙◌, ◌++◌, ℕ, List, None, Some, sym, subst}
+use Rattle.std.specs.Prelude.{[], IfErr, IfOk, IsTrue, OnOk}
+use Rattle.std.specs.List.{AllByRecursion}
 use Rattle.std.specs.declared.result.Result.{Result}
-use Rattle.file_plans.specs.Came.{Came, CameAlong}
-use Rattle.file_plans.specs.Plan.{HasPart, IsOther, Place}
+use Rattle.std.proofs.lemmas.Result.{IfOk-weaker, MatchResult-weaker}
+use Rattle.arrivals_source.specs.Counted.{IsNoLonger}
+use Rattle.file_plans.specs.Came.{Came, CameAlong, IsAmong}
+use Rattle.file_plans.specs.Plan.{HasPart, IsOther, Place, number_of}
 use Rattle.interface_play.proofs.FailingLaws.{fails_by}
 use Rattle.interface_play.specs.declared.play.Play.{Play}
-use Rattle.arrivals_source.specs.Counted.{IsNoLonger}
-use Rattle.interface_play.specs.Ended.{HasEnded, OnlyPlays}
+use Rattle.interface_play.specs.Ended.{HasEnded, IsBehind, OnlyPlays}
 use Rattle.interface_play.specs.Expected.{CameAsExpected}
 use Rattle.interface_play.specs.Failing.{PlayFails}
 use Rattle.interface_play.specs.Fronts.{Fronts}
 use Rattle.interface_play.specs.Played.{IsDone, WasPlayed}
 use Rattle.interface_play.specs.Setup.{Untold}
-use Rattle.interface_play.specs.Source.{OfSource, Places, Source, outputs_at, places_in}
+use Rattle.interface_play.specs.Source.{IsSource, OfSource, Places, Source, outputs_at, places_in}
 use Rattle.play_base.specs.View.{View, Keeps, SameCounts}
 use Rattle.play_core.specs.declared.totals.Totals.{Totals}
 use Rattle.play_loop.specs.declared.fault.PlayFault.{PlayFault}
 use Rattle.play_loop.specs.declared.kept.KeptFate.{KeptFate}
 use Rattle.run_outcomes.specs.Faults.{IsQuiet}
+use Rattle.chain_command.proofs.NameLemmas.{AreOthers, names_at}
 
--- a play by this seed at these places of what this file has left: `before` is when the files of the places before it began to come, `old`
--- when it began. `Of P`: where the files tell, P holds of its source
-pub record Ended (Of : (Source → Type 0) → Type 0) (kept : List KeptFate → Type 0) (before old new : View) (w : Places) (seed file : ℕ)
-    (places : List Place) (files : List ℕ) (r : Result Totals PlayFault) : Type 0 where
-  pub done : IfOk r (λ totals. Of (IsDone Untold kept new w seed totals))
-  pub fails : IfErr r (PlayFails Of w seed before new)
-  pub fronts : Of (Fronts before new w seed)
-  pub must : IsQuiet before new → Of (CameAsExpected w seed r)
+-- these files came to be before a play at these places, that which it reads among them, without a fault; none has the part of an output, and
+-- no output's name was written
+pub record Behind (before old : View) (w : Places) (file : ℕ) (places : List Place) (files : List ℕ) : Type 0 where
+  pub came : Came places files before old
+  pub among : IsAmong file files
+  pub counts : SameCounts before old
+  pub parts : (k : ℕ) → HasPart (outputs_at w) k → HasPart places k → ⊥
+  pub names : IsTrue before.tells → AreOthers before places (names_at w)
+
+-- this is that play, by this seed, of this source where the files tell
+pub record PlaysAt (before old : View) (w : Places) (seed file : ℕ) (source : IsTrue before.tells → Source) (p : Play) : Type 0 where
+  pub places : places_in p ≡ w
+  pub seeded : p.seed ≡ seed
+  pub reads : p.file ≡ file
+  pub is : (t : IsTrue before.tells) → IsSource old p (source t)
+
+-- so it ended
+pub record Ended (kept : List KeptFate → Type 0) (before old new : View) (w : Places) (seed file : ℕ) (places : List Place) (files : List ℕ)
+    (source : IsTrue before.tells → Source) (r : Result Totals PlayFault) : Type 0 where
+  pub done : IfOk r (λ totals. (t : IsTrue before.tells) → IsDone Untold kept new w seed totals (source t))
+  pub fails : IfErr r (PlayFails (λ P. (t : IsTrue before.tells) → P (source t)) w seed before new)
+  pub fronts : (t : IsTrue before.tells) → Fronts before new w seed (source t)
+  pub must : IsQuiet before new → (t : IsTrue before.tells) → CameAsExpected w seed r (source t)
   pub along : CameAlong (places ++ outputs_at w) before new
   pub came : OnOk r ((outputs : List ℕ) × Came (places ++ outputs_at w) (files ++ outputs) before new)
   pub counts : OnOk r (SameCounts before new)
@@ -36,19 +54,30 @@ pub record Ended (Of : (Source → Type 0) → Type 0) (kept : List KeptFate →
   pub only : (f q : ℕ) → old.part f ≡ None → new.part f ≡ Some q → HasPart (outputs_at w) q
   pub said : new.said ≡ old.said
 
-pub ended_at : (Of : (Source → Type 0) → Type 0) (kept : List KeptFate → Type 0) (u a v : View) (p : Play) (w : Places) (seed file : ℕ)
-    (places : List Place) (files : List ℕ) (r : Result Totals PlayFault) → ((P : Source → Type 0) → OfSource a p P → Of P)
-    → places_in p ≡ w → p.seed ≡ seed → p.file ≡ file → HasEnded Untold kept u a v places files p r → OnlyPlays a v p
-    → Ended Of kept u a v w seed file places files r
-ended_at Of kept u a v p w seed file places files r of same_places same_seed same_file h o =
-    let P : Places → Type 0 = λ z. Ended Of kept u a v z p.seed p.file places files r in
-    let Q : ℕ → Type 0 = λ k. Ended Of kept u a v w k p.file places files r in
-    let R : ℕ → Type 0 = λ f. Ended Of kept u a v w seed f places files r in
-    subst R same_file (subst Q same_seed (subst P same_places (record {
-      done = done r h.done;
-      fails = fails r h.fails;
-      fronts = of (Fronts u v (places_in p) p.seed) h.fronts;
-      must = λ q. of (CameAsExpected (places_in p) p.seed r) (h.must q);
+pub ended_at : {kept : List KeptFate → Type 0} {before old new : View} {w : Places} {seed file : ℕ} {places : List Place} {files : List ℕ}
+    {source : IsTrue before.tells → Source} {r : Result Totals PlayFault} {p : Play} → Behind before old w file places files
+    → PlaysAt before old w seed file source p → OnlyPlays old new p
+    → ((u : View) (es : List Place) (fs : List ℕ) → IsBehind u old es fs p → HasEnded Untold kept u old new es fs p r)
+    → Ended kept before old new w seed file places files source r
+ended_at {kept} {before} {old} {new} {w} {seed} {file} {places} {files} {source} {r} {p} b q o ended =
+    let names : (t : IsTrue before.tells) → AreOthers before places (names_at (places_in p)) =
+    λ t. subst (λ (z : Places). AreOthers before places (names_at z)) (sym q.places) (b.names t) in
+    let h = ended before places files (record {
+      came = b.came;
+      among = subst (λ (f : ℕ). IsAmong f files) (sym q.reads) b.among;
+      counts = b.counts;
+      parts = λ e m k. b.parts (number_of e) (subst (λ (z : Places). HasPart (outputs_at z) (number_of e)) q.places m) k;
+      departures = λ t. (names t).0;
+      fates = λ t. (names t).1.0;
+      stats = λ t. (names t).1.1.0;
+    }) in
+    let of : (P : Source → Type 0) → OfSource old p P → (t : IsTrue before.tells) → P (source t) =
+    λ P x t. x (b.came.keeps.tells ∙ t) (source t) (q.is t) in
+    rw (← q.places, ← q.seeded, ← q.reads) (record {
+      done = IfOk-weaker r _ _ (λ totals x. of _ x) h.done;
+      fails = MatchResult-weaker r h.fails (λ totals x. x) (λ fault x. fails_by (OfSource old p) _ (places_in p) p.seed before new fault of x);
+      fronts = of _ h.fronts;
+      must = λ k. of _ (h.must k);
       along = h.along;
       came = h.came;
       counts = h.counts;
@@ -56,40 +85,19 @@ ended_at Of kept u a v p w seed file places files r of same_places same_seed sam
       took = o.took;
       only = o.only;
       said = o.said;
-    })))
-  where
-    done : (r : Result Totals PlayFault) → IfOk r (λ totals. OfSource a p (IsDone Untold kept v (places_in p) p.seed totals))
-        → IfOk r (λ totals. Of (IsDone Untold kept v (places_in p) p.seed totals))
-    done (Ok totals) x = of (IsDone Untold kept v (places_in p) p.seed totals) x
-    done (Err fault) x = x
+    })
 
-    fails : (r : Result Totals PlayFault) → IfErr r (PlayFails (OfSource a p) (places_in p) p.seed u v) → IfErr r (PlayFails Of (places_in p) p.seed u v)
-    fails (Ok totals) x = x
-    fails (Err fault) x = fails_by (OfSource a p) Of (places_in p) p.seed u v fault of x
-
--- the outputs of a play that is whole keep their bytes behind it
-pub record SameOutputs (v w : View) (p : Places) : Type 0 where
-  pub departures : w.bytes p.departures.name ≡ v.bytes p.departures.name
-  pub fates : w.bytes p.fates.name ≡ v.bytes p.fates.name
-  pub stats : w.bytes p.stats.name ≡ v.bytes p.stats.name
-
-pub same_outputs : (a b c : View) (p : Places) → SameOutputs a b p → SameOutputs b c p → SameOutputs a c p
-same_outputs a b c p x y = record {
-  departures = y.departures ∙ x.departures;
-  fates = y.fates ∙ x.fates;
-  stats = y.stats ∙ x.stats;
-}
-
--- so what was played is played there
-abbrev pub played_on : (v w : View) (p : Places) (seed : ℕ) (s : Source) → SameOutputs v w p → WasPlayed v p seed s → WasPlayed w p seed s
-played_on v w p seed s k h = record {
+-- what was played is played where its outputs keep their bytes
+abbrev pub played_on : {v w : View} {p : Places} {seed : ℕ} {s : Source} {N : List ℕ → Type 0} {F : ℕ → Type 0} → Keeps N F v w
+    → AllByRecursion N (names_at p) → WasPlayed v p seed s → WasPlayed w p seed s
+played_on k n h = record {
   records = h.records;
   history = h.history;
   totals = h.totals;
   capture = h.capture;
   play = h.play;
-  texts = record { departures = k.departures ∙ h.texts.departures; fates = k.fates ∙ h.texts.fates };
-  stats = k.stats ∙ h.stats;
+  texts = record { departures = k.bytes _ n.0 ∙ h.texts.departures; fates = k.bytes _ n.1.0 ∙ h.texts.fates };
+  stats = k.bytes _ n.1.1.0 ∙ h.stats;
   reads = h.reads;
   promises = h.promises;
 }

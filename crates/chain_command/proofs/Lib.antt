@@ -8,6 +8,5 @@ pub mod PathEndLemmas
 pub mod PieceLemmas
 pub mod SecondLemmas
 pub mod StandLemmas
-pub mod StepLemmas
 pub mod TruthLemmas
 pub mod WrittenLemmas

@@ -24,52 +24,34 @@ rows_on n (suc d) f =
 -- what stands up to a number is a front of the text
 front_to : (p : Path) (n : ℕ) → n ≤ bound p → (rest : List ℕ) × ((path_header ++ rows_to p n) ++ rest ≡ text_of p)
 front_to p n l =
-    let d = bound p - n in
-    let s : d + n ≡ bound p = omega (arith, l) in
-    let y = rows_on n d _ in (
+    let s : (bound p - n) + n ≡ bound p = omega (arith, l) in
+    let y = rows_on n (bound p - n) _ in (
       y.0,
       append_assoc path_header (rows_to p n) y.0 ∙ ap (λ (t : List ℕ). path_header ++ t) (sym y.1) ∙ ap (λ (k : ℕ). path_header ++ rows_to p k) s,
     )
 
--- the head row
-pub head_wrote : (u v : View) (file : ℕ) (p : Path) → Wrote u v file path_header → Wrote u v file (path_header ++ rows_to p 0)
-head_wrote u v file p w = let P : List ℕ → Type 0 = λ t. Wrote u v file t in subst P (sym (append-nil path_header)) w
-
-pub head_some : (u v : View) (file : ℕ) (p : Path) → WroteFront u v file path_header → WroteSome u v file (text_of p)
-head_some u v file p w = record {
-  front = take w.0 path_header;
-  rest = drop w.0 path_header ++ rows_to p (bound p);
-  split = sym (append_assoc (take w.0 path_header) (drop w.0 path_header) (rows_to p (bound p)))
-      ∙ ap (λ (t : List ℕ). t ++ rows_to p (bound p)) (take-append-drop w.0 path_header);
-  wrote = w.1;
+-- a front of a piece is written behind what stands
+pub front_some : {u v w : View} {file : ℕ} (before piece rest : List ℕ) {text : List ℕ} → IsSome (u.part file) → (before ++ piece) ++ rest ≡ text
+    → Wrote u v file before → WroteFront v w file piece → WroteSome u w file text
+front_some {u} {v} {w} {file} before piece rest there split x y = record {
+  front = before ++ take y.0 piece;
+  rest = drop y.0 piece ++ rest;
+  split =
+      sym (append_assoc (before ++ take y.0 piece) (drop y.0 piece) rest)
+      ∙ ap (λ (t : List ℕ). t ++ rest) (append_assoc before (take y.0 piece) (drop y.0 piece) ∙ ap (λ (t : List ℕ). before ++ t) (take-append-drop y.0 piece))
+      ∙ split;
+  wrote = wrote_more_there u v w file before (take y.0 piece) there x y.1;
 }
 
--- a piece more
-pub piece_wrote : (u v w : View) (file : ℕ) (p : Path) (from next : ℕ) (piece : List ℕ) → IsSome (u.part file) → rows_to p next ≡ rows_to p from ++ piece
-    → Wrote u v file (path_header ++ rows_to p from) → Wrote v w file piece → Wrote u w file (path_header ++ rows_to p next)
-piece_wrote u v w file p from next piece there rows x y =
-    let P : List ℕ → Type 0 = λ t. Wrote u w file t in
-    subst P (append_assoc path_header (rows_to p from) piece ∙ ap (λ (t : List ℕ). path_header ++ t) (sym rows))
-    (wrote_more_there u v w file (path_header ++ rows_to p from) piece there x y)
+-- the rows of a piece
+module _ (u v w : View) (file : ℕ) (p : Path) (from next : ℕ) (piece : List ℕ) (there : IsSome (u.part file)) (rows : rows_to p next ≡ rows_to p from ++ piece)
+    (x : Wrote u v file (path_header ++ rows_to p from)) where
+  joined : (path_header ++ rows_to p from) ++ piece ≡ path_header ++ rows_to p next
+  joined = append_assoc path_header (rows_to p from) piece ∙ ap (λ (t : List ℕ). path_header ++ t) (sym rows)
 
-pub rows_some : (u v : View) (file : ℕ) (p : Path) (from : ℕ) → from ≤ bound p → Wrote u v file (path_header ++ rows_to p from)
-    → WroteSome u v file (text_of p)
-rows_some u v file p from l x =
-    let y = front_to p from l in record { front = path_header ++ rows_to p from; rest = y.0; split = y.1; wrote = x }
+  pub piece_wrote : Wrote v w file piece → Wrote u w file (path_header ++ rows_to p next)
+  piece_wrote y = subst (λ (t : List ℕ). Wrote u w file t) joined (wrote_more_there u v w file (path_header ++ rows_to p from) piece there x y)
 
-pub piece_some : (u v w : View) (file : ℕ) (p : Path) (from next : ℕ) (piece : List ℕ) → IsSome (u.part file) → next ≤ bound p
-    → rows_to p next ≡ rows_to p from ++ piece → Wrote u v file (path_header ++ rows_to p from) → WroteFront v w file piece → WroteSome u w file (text_of p)
-piece_some u v w file p from next piece there l rows x y =
-    let z = front_to p next l in
-    let before = path_header ++ rows_to p from in
-    record {
-      front = before ++ take y.0 piece;
-      rest = drop y.0 piece ++ z.0;
-      split =
-          sym (append_assoc (before ++ take y.0 piece) (drop y.0 piece) z.0)
-          ∙ ap (λ (t : List ℕ). t ++ z.0)
-          (append_assoc before (take y.0 piece) (drop y.0 piece) ∙ ap (λ (t : List ℕ). before ++ t) (take-append-drop y.0 piece)
-          ∙ append_assoc path_header (rows_to p from) piece ∙ ap (λ (t : List ℕ). path_header ++ t) (sym rows))
-          ∙ z.1;
-      wrote = wrote_more_there u v w file before (take y.0 piece) there x y.1;
-    }
+  pub piece_some : next ≤ bound p → WroteFront v w file piece → WroteSome u w file (text_of p)
+  piece_some l y =
+      let z = front_to p next l in front_some (path_header ++ rows_to p from) piece z.0 there (ap (λ (t : List ℕ). t ++ z.0) joined ∙ z.1) x y

@@ -1,110 +1,111 @@
 -- The second play of a chain, of what the first sent.
-use Rattle.std.proofs.Common.{◌≡◌, ◌∙◌, ◌++◌, ℕ, Bool, true, false, cond, Option, List, [], ◌∷◌, Some, Ok, sym, refl, subst, inl, inr}
+use Rattle.std.proofs.Common.{◌≡◌, ◌≢◌, ◌∙◌, ◌++◌, ℕ, true, List, [], ◌∷◌, Some, Ok, ap, sym, refl, subst, inl, inr, arith}
 use Rattle.std.specs.Prelude.{IsTrue}
 use Rattle.std.specs.declared.result.Result.{Result}
-use Rattle.file_plans.specs.Came.{Came, IsAmong}
-use Rattle.file_plans.specs.Plan.{HasPart, IsOther, number_of}
-use Rattle.file_plans.proofs.CameLaws.{came_more}
+use Rattle.arrivals_front.specs.declared.given.Given.{Given as FrontGiven}
+use Rattle.file_plans.specs.Came.{Came, IsAmong, IsReady}
+use Rattle.file_plans.specs.declared.part.Part.TheVariants as part
+use Rattle.file_plans.specs.Plan.{IsOther, Place, read_place}
+use Rattle.file_plans.proofs.CameLaws.{came_more, same_part}
+use Rattle.file_plans.proofs.EndLaws.{came_all}
 use Rattle.interface_play.specs.declared.play.Play.{Play}
 use Rattle.interface_play.specs.Ended.{HasEnded, IsBehind, OnlyPlays}
 use Rattle.interface_play.specs.Played.{WasPlayed}
 use Rattle.interface_play.specs.Setup.{Untold}
-use Rattle.interface_play.specs.Source.{IsSource, Places, Source, outputs_at, places_in}
-use Rattle.pcapng_files.specs.Fronts.{with_front}
+use Rattle.interface_play.specs.Source.{Source, outputs_at, places_in}
 use Rattle.play_base.specs.View.{View, SameCounts}
 use Rattle.play_base.proofs.ViewLaws.{same_trans}
 use Rattle.play_command.specs.Headline.{sole_of}
 use Rattle.play_core.specs.declared.totals.Totals.{Totals}
 use Rattle.play_loop.specs.declared.fault.PlayFault.{PlayFault}
 use Rattle.play_loop.specs.declared.kept.KeptFate.{KeptFate}
-use Rattle.chain_command.specs.Chained.{sent_by}
+use Rattle.play_loop.specs.KeptFates.{kept_fates}
+use Rattle.chain_command.specs.Chained.{arrivals_of, journal_of, sent_by}
 use Rattle.chain_command.specs.Names.{seconds_of, sent_source}
-use Rattle.chain_command.proofs.EndedLemmas.{Ended, ended_at}
-use Rattle.chain_command.proofs.FirstLemmas.{Begins, FirstEnded, Run, input_files, source_first}
-use Rattle.chain_command.proofs.NameLemmas.{behind_departures, behind_fates, behind_stats, inputs_at, not_part, sent_at, six}
+use Rattle.chain_command.proofs.EndedLemmas.{Behind, Ended, ended_at, played_on}
+use Rattle.chain_command.proofs.FirstLemmas.{FirstEnded, Run, input_files, source_first}
+use Rattle.chain_command.proofs.NameLemmas.{five, others_before, others_second, sent_at, six}
+use Rattle.chain_command.proofs.StandLemmas.{Stands, input_names, stands_first, stands_on, untouched}
 
 -- THE FIRST PLAY IS DONE, and what it sent was opened again
-pub record Passed (s : Run) (b : Begins s) (kept : List KeptFate → Type 0) (totals : Totals) (v w : View) (file : ℕ) : Type 0 where
-  pub first : FirstEnded s b kept v (Ok totals)
-  pub opened : Came (sent_at s.links) (file ∷ []) v w
-  pub left : IsTrue v.tells → w.left file ≡ v.bytes s.links.first.departures
-  pub said : w.said ≡ v.said
-  pub counts : SameCounts v w
+pub record Passed (s : Run) (kept : List KeptFate → Type 0) (w : View) (file : ℕ) : Type 0 where
+  pub played : (t : IsTrue s.before.tells) → WasPlayed w (sole_of s.links.first) s.seed (source_first s t)
+  pub told : (t : IsTrue s.before.tells) → kept (kept_fates (arrivals_of (played t)) (journal_of (played t)))
+  pub files : List ℕ
+  pub behind : Behind s.before w (seconds_of s.links) file (six s.links) files
+  pub stand : Stands s w
+  pub part : w.part file ≡ Some 3
+  pub left : (t : IsTrue s.before.tells) → w.left file ≡ Some (sent_by (played t))
+  pub said : w.said ≡ s.before.said
 
-module _ (s : Run) (b : Begins s) (kept : List KeptFate → Type 0) (totals : Totals) (v w : View) (file : ℕ) (p : Passed s b kept totals v w file) where
-  pub told_then : IsTrue s.before.tells → IsTrue v.tells
-  told_then t = p.first.keeps.tells ∙ b.come.keeps.tells ∙ t
+last_among : (file : ℕ) (fs : List ℕ) → IsAmong file (fs ++ file ∷ [])
+last_among file [] = inl refl
+last_among file (f ∷ fs) = inr (last_among file fs)
 
-  abbrev pub played_first : (t : IsTrue s.before.tells) → WasPlayed v (sole_of s.links.first) s.seed (source_first s b t)
-  played_first t = (p.first.done t).played
+pub passed : {s : Run} {kept : List KeptFate → Type 0} {v w : View} {file : ℕ} {totals : Totals} {e : Place} → FirstEnded s kept v (Ok totals)
+    → e ≡ read_place part.Departures s.links.first.departures → Came (e ∷ []) (file ∷ []) v w → IsReady v w e file → w.said ≡ v.said → SameCounts v w
+    → Passed s kept w file
+passed {s} {kept} {v} {w} {file} {totals} {e} h same came ready said counts =
+    let n = s.links in
+    let x = subst (λ (z : Place). Came (z ∷ []) (file ∷ []) v w) same came in
+    let told : IsTrue s.before.tells → IsTrue v.tells = λ t. h.keeps.tells ∙ s.come.keeps.tells ∙ t in
+    record {
+      played = λ t. played_on x.keeps ((tt, tt), ((tt, tt), ((tt, tt), tt))) (h.done t).played;
+      told = λ t. (h.done t).told;
+      files = (input_files s ++ h.came.0) ++ file ∷ [];
+      behind = record {
+        came = came_more (five n) (sent_at n) (input_files s ++ h.came.0) (file ∷ []) s.before v w h.came.1 x;
+        among = last_among file (input_files s ++ h.came.0);
+        counts = same_trans s.before v w h.counts counts;
+        parts = λ k m l. omega (arith, m, l);
+        names = λ t. others_before n s.distinct s.before t;
+      };
+      stand = stands_on s (stands_first s h) x.keeps (untouched (sent_at n) v w 1 (came_all _ _ v w x) (λ m. omega (arith, m)))
+          (untouched (sent_at n) v w 2 (came_all _ _ v w x) (λ m. omega (arith, m))) (λ t. ((tt, tt), (tt, tt)));
+      part = x.are.0.part;
+      left = λ t. (subst (λ (z : Place). IsReady v w z file) same ready (told t)).1 ∙ (h.done t).played.texts.departures;
+      said = said ∙ h.said ∙ s.come.said;
+    }
 
+module _ {s : Run} {kept : List KeptFate → Type 0} {w : View} {file : ℕ} (p : Passed s kept w file) where
   abbrev pub source_second : IsTrue s.before.tells → Source
-  source_second t = sent_source s.next (sent_by (played_first t))
+  source_second t = sent_source s.next (sent_by (p.played t))
 
-  abbrev pub OfSecondHad : (Source → Type 0) → Type 0
-  OfSecondHad P = (t : IsTrue s.before.tells) → P (source_second t)
+  -- so the play of it ended, where nothing of it was read before
+  abbrev pub SecondEnded : (held : List KeptFate → Type 0) (c : View) → Result Totals PlayFault → Type 0
+  SecondEnded held c r = Ended held s.before w c (seconds_of s.links) s.seed file (six s.links) p.files source_second r
 
-  -- the files that came before the second play
-  abbrev pub six_files : List ℕ
-  six_files = (input_files s b ++ p.first.came.0) ++ file ∷ []
+  pub second_ended : {held : List KeptFate → Type 0} {c : View} {r : Result Totals PlayFault} (q : Play) (given : FrontGiven) → q.interface.now ≡ s.next
+      → q.given.now ≡ given → given.rest ≡ true → given.front.items ≡ [] → q.file ≡ file → q.seed ≡ s.seed → places_in q ≡ seconds_of s.links
+      → OnlyPlays w c q → ((u : View) (es : List Place) (fs : List ℕ) → IsBehind u w es fs q → HasEnded Untold held u w c es fs q r) → SecondEnded held c r
+  second_ended q given interface is rest front reopened seed places =
+      ended_at p.behind (record {
+        places = places;
+        seeded = seed;
+        reads = reopened;
+        is = λ t. record { interface = sym interface; in_memory = rw (is, rest); capture = rw (is, rest, front, reopened, p.left t) };
+      })
 
-  pub six_came : Came ((inputs_at s.links ++ outputs_at (sole_of s.links.first)) ++ sent_at s.links) six_files s.before w
-  six_came = came_more (inputs_at s.links ++ outputs_at (sole_of s.links.first)) (sent_at s.links) (input_files s b ++ p.first.came.0) (file ∷ [])
-      s.before v w p.first.came.1 p.opened
+  pub told_w : IsTrue s.before.tells → IsTrue w.tells
+  told_w t = p.behind.came.keeps.tells ∙ t
 
-  -- the play of what was sent, of which nothing was read
-  pub record IsSecond (q : Play) : Type 0 where
-    pub interface : s.next ≡ q.interface.now
-    pub rest : q.given.now.rest ≡ true
-    pub front : q.given.now.front.items ≡ []
-    pub reopened : q.file ≡ file
-    pub seed : q.seed ≡ s.seed
-    pub places : places_in q ≡ seconds_of s.links
+  -- behind it the inputs' files stand, and the first play is as it was
+  module _ {held : List KeptFate → Type 0} {c : View} {r : Result Totals PlayFault} (h : SecondEnded held c r) where
+    other_file : (f k : ℕ) → s.ready.part f ≡ Some k → k ≢ 3 → f ≢ file
+    other_file f k e n same = n (same_part k 3 (sym (p.stand.keeps.part f k e) ∙ ap w.part same ∙ p.part))
 
-  last_among : (fs : List ℕ) → IsAmong file (fs ++ file ∷ [])
-  last_among [] = inl refl
-  last_among (f ∷ fs) = inr (last_among fs)
+    pub stands_second : Stands s c
+    stands_second =
+        stands_on s p.stand h.keeps (λ f fresh e. let m = h.only f 1 fresh e in omega (arith, m)) (λ f fresh e. let m = h.only f 2 fresh e in omega (arith, m))
+        (λ t.
+        let o = others_second s.links s.distinct w (told_w t) in
+        let y = input_names s p.stand (IsOther w (outputs_at (seconds_of s.links))) o.0 o.1.0 t in (
+          (other_file s.conf.file 1 s.had.came.are.0.part (omega arith), y.0),
+          (other_file s.arrivals.file 2 s.had.came.are.1.0.part (omega arith), y.1),
+        ))
 
-  no_both : (k : ℕ) → HasPart (outputs_at (seconds_of s.links)) k → HasPart (six s.links) k → ⊥
-  no_both k (inl e) h = not_part (six s.links) 7 refl (subst (HasPart (six s.links)) e h)
-  no_both k (inr (inl e)) h = not_part (six s.links) 8 refl (subst (HasPart (six s.links)) e h)
-  no_both k (inr (inr (inl e))) h = not_part (six s.links) 9 refl (subst (HasPart (six s.links)) e h)
-  no_both k (inr (inr (inr e))) h = e
+    abbrev pub first_then : (t : IsTrue s.before.tells) → WasPlayed c (sole_of s.links.first) s.seed (source_first s t)
+    first_then t = played_on h.keeps (others_second s.links s.distinct w (told_w t)).1.1 (p.played t)
 
-  pub second_behind : (q : Play) → IsSecond q → IsBehind s.before w (six s.links) six_files q
-  second_behind q f = record {
-    came = six_came;
-    among = let P : ℕ → Type 0 = λ k. IsAmong k six_files in subst P (sym f.reopened) (last_among (input_files s b ++ p.first.came.0));
-    counts = same_trans s.before v w p.first.counts p.counts;
-    parts = λ e h k. let P : Places → Type 0 = λ z. HasPart (outputs_at z) (number_of e) in no_both (number_of e) (subst P f.places h) k;
-    departures = λ t. let P : Places → Type 0 = λ z. IsOther s.before (six s.links) z.departures.name in
-        subst P (sym f.places) (behind_departures s.links b.distinct s.before t);
-    fates = λ t. let P : Places → Type 0 = λ z. IsOther s.before (six s.links) z.fates.name in
-        subst P (sym f.places) (behind_fates s.links b.distinct s.before t);
-    stats = λ t. let P : Places → Type 0 = λ z. IsOther s.before (six s.links) z.stats.name in
-        subst P (sym f.places) (behind_stats s.links b.distinct s.before t);
-  }
-
-  second_is : (q : Play) → IsSecond q → (t : IsTrue s.before.tells) → IsSource w q (source_second t)
-  second_is q f t = record {
-    interface = f.interface;
-    in_memory = let P : Bool → Type 0 = λ k. false ≡ cond k false true in subst P (sym f.rest) refl;
-    capture =
-        let sent : List ℕ = sent_by (played_first t) in
-        let R : Bool → Type 0 = λ k. with_front true k q.given.now.front.items (w.left q.file) ≡ Some sent in
-        let F : List ℕ → Type 0 = λ k. with_front true true k (w.left q.file) ≡ Some sent in
-        let Q : ℕ → Type 0 = λ k. with_front true true [] (w.left k) ≡ Some sent in
-        let L : Option (List ℕ) → Type 0 = λ k. with_front true true [] k ≡ Some sent in
-        subst R (sym f.rest) (subst F (sym f.front) (subst Q (sym f.reopened)
-        (subst L (sym (p.left (told_then t) ∙ (played_first t).texts.departures)) refl)));
-  }
-
-  -- SO IT ENDED, told of what was sent
-  abbrev pub SecondEnded : (kept : List KeptFate → Type 0) (c : View) → Result Totals PlayFault → Type 0
-  SecondEnded held c y = Ended OfSecondHad held s.before w c (seconds_of s.links) s.seed file (six s.links) six_files y
-
-  pub second_ended : (q : Play) (held : List KeptFate → Type 0) (c : View) (y : Result Totals PlayFault) → IsSecond q
-      → HasEnded Untold held s.before w c (six s.links) six_files q y → OnlyPlays w c q → SecondEnded held c y
-  second_ended q held c y f h o =
-      ended_at OfSecondHad held s.before w c q (seconds_of s.links) s.seed file (six s.links) six_files y
-      (λ P of t. of (p.opened.keeps.tells ∙ told_then t) (source_second t) (second_is q f t)) f.places f.seed f.reopened h o
+    pub said_then : c.said ≡ s.before.said
+    said_then = h.said ∙ p.said

@@ -1,133 +1,112 @@
 -- The inputs' files stand through the steps of a chain.
-use Rattle.std.proofs.Common.{◌≡◌, ◌≢◌, ◌≤◌, ◌+◌, ◌∙◌, ◌⊎◌, ℕ, List, [], ◌∷◌, None, Some, length, ap, sym, refl, subst, inl, inr, arith}
-use Rattle.std.specs.Prelude.{IsTrue}
-use Rattle.file_plans.specs.Came.{Came, IsAmong}
-use Rattle.file_plans.specs.End.{TookFew, Untouched, most_configuration}
-use Rattle.file_plans.proofs.CameLaws.{none_some, same_part, there_or_not}
+use Rattle.std.proofs.Common.{◌≡◌, ◌∙◌, ℕ, None, Some, ap, sym, refl, subst, arith}
+use Rattle.std.specs.Prelude.{IsTrue, List, take}
+use Rattle.std.specs.declared.result.Result.{Result}
+use Rattle.arrivals_source.specs.Counted.{IsNoLonger}
+use Rattle.file_plans.specs.Came.{CameAlong}
+use Rattle.file_plans.specs.End.{FilesEnd, TookFew, Untouched}
+use Rattle.file_plans.specs.Plan.{HasPart, Place}
+use Rattle.file_plans.proofs.EndLaws.{files_end}
+use Rattle.file_plans.proofs.FewLaws.{few_kept}
 use Rattle.play_base.specs.View.{View, Keeps}
-use Rattle.command_form.specs.Names.{Links}
-use Rattle.command_form.proofs.FirstLaws.{KeepsInputs}
-use Rattle.chain_command.proofs.NameLemmas.{inputs_at}
+use Rattle.play_base.proofs.ViewLaws.{keeps_fewer, keeps_trans}
+use Rattle.play_core.specs.declared.totals.Totals.{Totals}
+use Rattle.play_loop.specs.declared.fault.PlayFault.{PlayFault}
+use Rattle.play_loop.specs.declared.kept.KeptFate.{KeptFate}
+use Rattle.command_form.specs.Form.{AreReadyWhereTold, InputsFirst, Within}
+use Rattle.command_form.specs.Plans.{chain_plan}
+use Rattle.command_form.proofs.FirstLaws.{first_on}
+use Rattle.command_form.proofs.HadLaws.{both_begun, both_read, both_ready}
+use Rattle.interface_play.proofs.NewLemmas.{untouched_then}
+use Rattle.play_command.proofs.StayLaws.{along_part}
+use Rattle.chain_command.specs.Names.{chain_command}
+use Rattle.chain_command.proofs.FirstLemmas.{FirstEnded, Run, asked_of}
+use Rattle.chain_command.proofs.NameLemmas.{five, nine, others_first}
 
--- no file of a part of the inputs came to be
-pub record OpensNone (v w : View) : Type 0 where
-  pub config : Untouched v w 1
-  pub arrivals : Untouched v w 2
+-- no file came to be of a part that no place has
+pub untouched : (es : List Place) (u v : View) (p : ℕ) → CameAlong es u v → (HasPart es p → ⊥) → Untouched u v p
+untouched es u v p x none f fresh e = none (along_part es u v f p x fresh e)
 
--- behind inputs in these two files: they have their parts and names, and what they had left or, of the arrivals, no more
-pub record Stands (u a w : View) (n : Links) (config arrivals : ℕ) : Type 0 where
-  pub tells : w.tells ≡ u.tells
-  pub part : (f p : ℕ) → a.part f ≡ Some p → w.part f ≡ Some p
-  pub config_part : w.part config ≡ Some 1
-  pub config_name : IsTrue u.tells → w.name config ≡ n.first.config
-  pub config_left : IsTrue u.tells → w.left config ≡ a.left config
-  pub arrivals_part : w.part arrivals ≡ Some 2
-  pub arrivals_name : IsTrue u.tells → w.name arrivals ≡ n.first.arrivals
-  pub arrivals_left : IsTrue u.tells → (rest : List ℕ) → a.left arrivals ≡ Some rest
-      → (tail : List ℕ) × (w.left arrivals ≡ Some tail) × (length tail ≤ length rest)
-  pub opens : OpensNone a w
+-- behind the inputs: the configuration has left what it had and the arrivals no more, and neither was opened again
+pub record Stands (s : Run) (v : View) : Type 0 where
+  pub keeps : Keeps (λ m. ⊥) (λ f. (f ≡ s.conf.file) × IsTrue s.before.tells) s.ready v
+  pub took : IsNoLonger s.ready v s.arrivals.file
+  pub no_config : Untouched s.ready v 1
+  pub no_arrivals : Untouched s.ready v 2
 
-le_refl : (n : ℕ) → n ≤ n
-le_refl n = omega arith
+module _ (s : Run) where
+  pub ready_where : AreReadyWhereTold s.before (asked_of s.links)
+  ready_where = both_ready s.before s.ready (asked_of s.links) s.links.first.arrivals s.conf s.arrivals refl s.had
 
--- once they are had
-pub stands_had : (u a : View) (n : Links) (config arrivals : ℕ) → Came (inputs_at n) (config ∷ arrivals ∷ []) u a → Stands u a a n config arrivals
-stands_had u a n config arrivals x = record {
-  tells = x.keeps.tells;
-  part = λ f p e. e;
-  config_part = x.are.0.part;
-  config_name = x.are.0.name;
-  config_left = λ t. refl;
-  arrivals_part = x.are.1.0.part;
-  arrivals_name = x.are.1.0.name;
-  arrivals_left = λ t rest e. (rest, e, le_refl (length rest));
-  opens = record { config = λ f fresh e. none_some 1 (sym fresh ∙ e); arrivals = λ f fresh e. none_some 2 (sym fresh ∙ e) };
-}
+  told_ready : IsTrue s.before.tells → IsTrue s.ready.tells
+  told_ready t = s.come.keeps.tells ∙ t
 
--- a file of a part is there before, or came
-pub untouched_then : (u v w : View) (p : ℕ) → ((f q : ℕ) → v.part f ≡ Some q → w.part f ≡ Some q) → Untouched u v p → Untouched v w p → Untouched u w p
-untouched_then u v w p k x y f fresh e = by (there_or_not (v.part f))
-  where
-    by : (v.part f ≡ None) ⊎ ((q : ℕ) × (v.part f ≡ Some q)) → ⊥
-    by (inl none) = y f none e
-    by (inr there) = x f fresh (there.1 ∙ sym (k f there.0 there.1) ∙ e)
+  -- through the first play, and through calls that keep what both files have left
+  pub stands_first : {kept : List KeptFate → Type 0} {v : View} {r : Result Totals PlayFault} → FirstEnded s kept v r → Stands s v
+  stands_first {kept} {v} {r} h =
+      let c = s.had.came.are in
+      record {
+        keeps = keeps_fewer _ _ _ _ s.ready v (λ m x. absurd x) (λ f x. (
+          (λ e. absurd (cc (sym c.0.part ∙ ap s.ready.part (sym x.0 ∙ e) ∙ c.1.0.part))),
+          rw (x.0, c.0.name x.1) (others_first s.links s.distinct s.ready (told_ready x.1)),
+        )) h.keeps;
+        took = h.took;
+        no_config = λ f fresh e. let m = h.only f 1 fresh e in omega (arith, m);
+        no_arrivals = λ f fresh e. let m = h.only f 2 fresh e in omega (arith, m);
+      }
 
--- through calls that keep the files of the names in N and, but for one of the arrivals, what they have left
-module _ (u a v w : View) (n : Links) (config arrivals : ℕ) (N : List ℕ → Type 0) (F : ℕ → Type 0) (s : Stands u a v n config arrivals) (k : Keeps N F v w)
-    (o : OpensNone v w) where
-  opens_then : OpensNone a w
-  opens_then = record {
-    config = untouched_then a v w 1 k.part s.opens.config o.config;
-    arrivals = untouched_then a v w 2 k.part s.opens.arrivals o.arrivals;
+  pub stands_on : {v w : View} {N : List ℕ → Type 0} {F : ℕ → Type 0} → Stands s v → Keeps N F v w → Untouched v w 1 → Untouched v w 2
+      → (IsTrue s.before.tells → F s.conf.file × F s.arrivals.file) → Stands s w
+  stands_on {v} {w} {N} {F} x k one two left = record {
+    keeps = keeps_trans _ _ s.ready v w x.keeps (keeps_fewer N _ F _ v w (λ m h. absurd h) (λ f h. subst F (sym h.0) (left h.1).0) k);
+    took = λ t all e.
+        let y = x.took t all e in
+        (y.0, k.left s.arrivals.file 2 (x.keeps.part s.arrivals.file 2 s.had.came.are.1.0.part) (left (sym s.come.keeps.tells ∙ t)).1 ∙ y.1, y.2);
+    no_config = untouched_then s.ready v w 1 k.part x.no_config one;
+    no_arrivals = untouched_then s.ready v w 2 k.part x.no_arrivals two;
   }
 
-  -- of which what the arrivals have left is told
-  pub stands_took : (IsTrue u.tells → F config) → (IsTrue u.tells → (rest : List ℕ) → v.left arrivals ≡ Some rest → (tail : List ℕ) × (w.left arrivals ≡ Some tail) × (length tail ≤ length rest))
-      → Stands u a w n config arrivals
-  stands_took h took = record {
-    tells = k.tells ∙ s.tells;
-    part = λ f p e. k.part f p (s.part f p e);
-    config_part = k.part config 1 s.config_part;
-    config_name = λ t. k.name config 1 s.config_part ∙ s.config_name t;
-    config_left = λ t. k.left config 1 s.config_part (h t) ∙ s.config_left t;
-    arrivals_part = k.part arrivals 2 s.arrivals_part;
-    arrivals_name = λ t. k.name arrivals 2 s.arrivals_part ∙ s.arrivals_name t;
-    arrivals_left = λ t rest e.
-        let x = s.arrivals_left t rest e in
-        let y = took t x.0 x.1 in
-        let l = x.2 in
-        let m = y.2 in
-        (y.0, y.1, omega (arith, l, m));
-    opens = opens_then;
-  }
+  -- what holds of the names of the words holds of the names of both files
+  pub input_names : {v : View} → Stands s v → (N : List ℕ → Type 0) → N s.links.first.config → N s.links.first.arrivals → IsTrue s.before.tells
+      → N (v.name s.conf.file) × N (v.name s.arrivals.file)
+  input_names {v} x N c a t = let y = s.had.came.are in (
+    subst N (sym (x.keeps.name s.conf.file 1 y.0.part ∙ y.0.name t)) c,
+    subst N (sym (x.keeps.name s.arrivals.file 2 y.1.0.part ∙ y.1.0.name t)) a,
+  )
 
-  pub stands_on : (IsTrue u.tells → F config) → (IsTrue u.tells → F arrivals) → Stands u a w n config arrivals
-  stands_on h i = stands_took h (λ t rest e. (rest, k.left arrivals 2 s.arrivals_part (i t) ∙ e, le_refl (length rest)))
+  is_config : (f : ℕ) → s.before.part f ≡ None → s.ready.part f ≡ Some 1 → f ≡ s.conf.file
+  is_config f fresh e = grind (arith, s.had.came.only f 1 fresh e, s.had.came.are.1.0.part)
 
-one_two : ◌≢◌ {A = ℕ} 1 2
-one_two e = cc
+  is_arrivals : (f : ℕ) → s.before.part f ≡ None → s.ready.part f ≡ Some 2 → f ≡ s.arrivals.file
+  is_arrivals f fresh e = grind (arith, s.had.came.only f 2 fresh e, s.had.came.are.0.part)
 
--- SO THEY STAND, of every file of their parts
-pub keeps_inputs : (u a w : View) (n : Links) (config arrivals : ℕ) → Came (inputs_at n) (config ∷ arrivals ∷ []) u a → Stands u a w n config arrivals
-    → KeepsInputs u a w
-keeps_inputs u a w n config arrivals x s = record {
-  config = λ f t fresh e. let L : ℕ → Type 0 = λ g. w.left g ≡ a.left g in subst L (sym (is_config f fresh e)) (s.config_left t);
-  arrivals = λ f t fresh e rest at.
-      let L : ℕ → Type 0 = λ g. a.left g ≡ Some rest → (tail : List ℕ) × (w.left g ≡ Some tail) × (length tail ≤ length rest) in
-      subst L (sym (is_arrivals f fresh e)) (s.arrivals_left t rest) at;
-  part = s.part;
-  no_config = s.opens.config;
-  no_arrivals = s.opens.arrivals;
-}
-  where
-    is_config : (f : ℕ) → u.part f ≡ None → a.part f ≡ Some 1 → f ≡ config
-    is_config f fresh e = by (x.only f 1 fresh e)
-      where
-        by : IsAmong f (config ∷ arrivals ∷ []) → f ≡ config
-        by (inl h) = h
-        by (inr (inl h)) = absurd (one_two (same_part 1 2 (sym e ∙ ap a.part h ∙ x.are.1.0.part)))
-        by (inr (inr h)) = absurd h
+  -- SO INPUTS CAME FIRST
+  pub inputs_first : (v : View) → Stands s v → InputsFirst (chain_command s.links) s.before v
+  inputs_first v x =
+      first_on (chain_command s.links) s.before s.ready v ready_where
+      (both_read s.before s.ready (asked_of s.links) s.links.first.arrivals s.conf s.arrivals s.had)
+      (both_begun s.before s.ready (asked_of s.links) s.links.first.arrivals s.conf s.arrivals refl s.had)
+      (record {
+        config = λ f t fresh e. x.keeps.left f 1 e (is_config f fresh e, t);
+        arrivals = λ f t fresh e rest at.
+            let g = is_arrivals f fresh e in
+            let y = x.took (told_ready t) rest (sym (ap s.ready.left g) ∙ at) in
+            (y.0, ap v.left g ∙ y.1, y.2);
+        part = x.keeps.part;
+        no_config = x.no_config;
+        no_arrivals = x.no_arrivals;
+      })
 
-    is_arrivals : (f : ℕ) → u.part f ≡ None → a.part f ≡ Some 2 → f ≡ arrivals
-    is_arrivals f fresh e = by (x.only f 2 fresh e)
-      where
-        by : IsAmong f (config ∷ arrivals ∷ []) → f ≡ arrivals
-        by (inl h) = absurd (one_two (same_part 1 2 (sym x.are.0.part ∙ ap a.part (sym h) ∙ e)))
-        by (inr (inl h)) = h
-        by (inr (inr h)) = absurd h
+  -- and files end that came along the plan, or no further in it
+  few : (v : View) → Stands s v → TookFew s.before v 1 s.links.first.config
+  few v x = few_kept _ _ s.before s.ready v 1 s.links.first.config s.come.few x.keeps x.no_config (λ f t fresh e. (is_config f fresh e, t))
 
--- and of the configuration few bytes are taken
-pub few_on : (u a w : View) (n : Links) (config arrivals : ℕ) → Came (inputs_at n) (config ∷ arrivals ∷ []) u a → Stands u a w n config arrivals
-    → TookFew u a 1 n.first.config → TookFew u w 1 n.first.config
-few_on u a w n config arrivals x s few t f fresh e all at = by (there_or_not (a.part f))
-  where
-    k : KeepsInputs u a w
-    k = keeps_inputs u a w n config arrivals x s
+  pub files_at : (v : View) → Stands s v → CameAlong (chain_plan s.links) s.before v → FilesEnd (chain_plan s.links) s.before v
+  files_at v x along = files_end (chain_plan s.links) s.before v along (few v x, (tt, (tt, (tt, (tt, (tt, (tt, (tt, (tt, (tt, tt))))))))))
 
-    by : (a.part f ≡ None) ⊎ ((q : ℕ) × (a.part f ≡ Some q)) → (rest : List ℕ) × (w.left f ≡ Some rest) × (length all ≤ most_configuration + 1 + length rest)
-    by (inl none) = absurd (s.opens.config f none e)
-    by (inr there) =
-        let q : there.0 ≡ 1 = same_part there.0 1 (sym (s.part f there.0 there.1) ∙ e) in
-        let is : a.part f ≡ Some 1 = there.1 ∙ ap (λ (m : ℕ). Some m) q in
-        let y = few t f fresh is all at in
-        (y.0, k.config f t fresh is ∙ y.1, y.2)
+  pub within_five : (v : View) → Stands s v → CameAlong (five s.links) s.before v → Within 5 (chain_command s.links) s.before v
+  within_five v x along = files_end (take 5 (chain_plan s.links)) s.before v along (few v x, (tt, (tt, (tt, (tt, tt)))))
+
+  pub within_nine : (v : View) → Stands s v → CameAlong (nine s.links) s.before v → Within 9 (chain_command s.links) s.before v
+  within_nine v x along =
+      files_end (take 9 (chain_plan s.links)) s.before v along (few v x, (tt, (tt, (tt, (tt, (tt, (tt, (tt, (tt, tt)))))))))

@@ -1,5 +1,6 @@
 -- What a chain leaves that is done.
 use Rattle.std.specs.Prelude.{◌≡◌, ◌≤◌, ◌-◌, ℕ, List, [], ◌∷◌, Contains, Some, false, slice_get}
+use Rattle.std.specs.List.{flat_map}
 use Rattle.altq_model.specs.Arrivals.{Captured, arrival}
 use Rattle.altq_model.specs.declared.Fate.{Fate}
 use Rattle.altq_model.specs.declared.Fate.TheVariants.{Dropped, Sent}
@@ -39,13 +40,12 @@ abbrev pub paths_of : {v : View} {n : Links} {seed : ℕ} {i j : Interface} {g :
 paths_of p = path_text (kept_fates (arrivals_of p.first) (journal_of p.first)) (journal_of p.second)
 
 -- the ends of a journal's sendings, in its order: the k-th is that of packet k of the second play
-abbrev pub ends_by : Fate → List ℕ → List ℕ
-ends_by (Dropped reason) ends = ends
-ends_by (Sent start end rule) ends = end ∷ ends
+abbrev pub ends_by : Fate → List ℕ
+ends_by (Dropped reason) = []
+ends_by (Sent start end rule) = end ∷ []
 
 abbrev pub ends_of : List Decision → List ℕ
-ends_of [] = []
-ends_of (d ∷ ds) = ends_by d.1 (ends_of ds)
+ends_of ds = flat_map (λ (d : Decision). ends_by d.1) ds
 
 -- no arrival is later than its own stamp
 abbrev pub NoneRaised : List Captured → Type 0

@@ -14,6 +14,7 @@ use Rattle.interface_play.specs.Ended.{HasEnded, IsBehind}
 use Rattle.interface_play.specs.Fronts.{Fronts, HasFronts, HasStatsFront, HeadsFirst, IsFrontAt, RowsWait, TookFirst}
 use Rattle.interface_play.specs.Played.{IsDone}
 use Rattle.interface_play.specs.Source.{Places, Source, outputs_at, places_in}
+use Rattle.interface_play.proofs.FrontLaws.{fronts_none}
 use Rattle.play_base.specs.View.{View, Everything, Keeps}
 use Rattle.play_base.proofs.ViewLaws.{keeps_fewer, keeps_refl, rose_before}
 use Rattle.play_core.specs.declared.totals.Totals.{Totals}
@@ -144,16 +145,8 @@ done_on k d =
 
 -- nothing was created
 pub unbegun_fronts : (u v : View) (p : Places) (seed : ℕ) (s : Source) → AllStay u v p → Fronts u v p seed s
-unbegun_fronts u v p seed s k = record {
-  heads = inr (inl (inl (k.fates.none, k.fates.bytes)), λ memory. inl k.departures.none);
-  texts = λ records last reads is_last. record {
-    history = [];
-    begun = record { events = tt; in_time = tt };
-    departures = inl (k.departures.none, k.departures.bytes);
-    fates = inl (k.fates.none, k.fates.bytes);
-    stats = inl (inl (k.stats.none, k.stats.bytes));
-  };
-}
+unbegun_fronts u v p seed s k =
+    fronts_none u v p seed s (k.departures.none, k.departures.bytes) (k.fates.none, k.fates.bytes) (k.stats.none, k.stats.bytes)
 
 among_part : (a b : View) (es : List Place) (fs : List ℕ) (f p : ℕ) → AreOf a b es fs → IsAmong f fs → b.part f ≡ Some p → HasPart es p
 among_part a b [] [] f p x h k = absurd h
