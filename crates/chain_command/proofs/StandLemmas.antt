@@ -17,15 +17,14 @@ use Rattle.command_form.specs.Form.{AreReadyWhereTold, InputsFirst, Within}
 use Rattle.command_form.specs.Plans.{chain_plan}
 use Rattle.command_form.proofs.FirstLaws.{first_on}
 use Rattle.command_form.proofs.HadLaws.{both_begun, both_read, both_ready}
-use Rattle.interface_play.proofs.NewLemmas.{untouched_then}
-use Rattle.play_command.proofs.StayLaws.{along_part}
+use Rattle.interface_play.proofs.NewLemmas.{has_first, part_of, untouched_then}
 use Rattle.chain_command.specs.Names.{chain_command}
 use Rattle.chain_command.proofs.FirstLemmas.{FirstEnded, Run, asked_of}
 use Rattle.chain_command.proofs.NameLemmas.{five, nine, others_first}
 
 -- no file came to be of a part that no place has
 pub untouched : (es : List Place) (u v : View) (p : ℕ) → CameAlong es u v → (HasPart es p → ⊥) → Untouched u v p
-untouched es u v p x none f fresh e = none (along_part es u v f p x fresh e)
+untouched es u v p x none f fresh e = none (has_first p x.front x.rest es x.split (part_of u v x.front x.files f p x.came.are (x.came.only f p fresh e) e))
 
 -- behind the inputs: the configuration has left what it had and the arrivals no more, and neither was opened again
 pub record Stands (s : Run) (v : View) : Type 0 where
