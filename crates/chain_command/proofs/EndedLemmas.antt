@@ -1,6 +1,6 @@
 -- How a play of a chain ended, told of its link.
 use Rattle.std.proofs.Common.{◌≡◌, ◌≢◌, ◌∙◌, ◌++◌, ℕ, List, None, Some, sym, subst}
-use Rattle.std.specs.Prelude.{[], IfErr, IfOk, IsTrue, OnOk}
+use Rattle.std.specs.Prelude.{IfErr, IfOk, IsTrue, OnOk}
 use Rattle.std.specs.List.{AllByRecursion}
 use Rattle.std.specs.declared.result.Result.{Result}
 use Rattle.std.proofs.lemmas.Result.{IfOk-weaker, MatchResult-weaker}

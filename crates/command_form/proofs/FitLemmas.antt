@@ -1,5 +1,5 @@
 -- The numbers of an interface that was asked for and found are in their ranges.
-use Rattle.std.proofs.Common.{◌≡◌, ◌∙◌, ℕ, suc, Bool, true, false, cond, Option, List, [], ◌∷◌, length, None, Some, Result, Ok, Err, ap, sym, refl, subst}
+use Rattle.std.proofs.Common.{◌≡◌, ℕ, suc, Bool, true, false, cond, Option, List, [], ◌∷◌, length, None, Some, Result, Ok, Err, ap, refl}
 use Rattle.std.specs.Prelude.{bytes_eq, find, nat_lt, option_map, slice_get}
 use Rattle.conf_laws.specs.Fit.{IsInterface}
 use Rattle.conf_laws.specs.Laws.{ConfigurationsFit}
@@ -10,7 +10,7 @@ use Rattle.conf_tree.specs.declared.interface.Interface.{Interface}
 use Rattle.file_plans.specs.End.{most_configuration}
 use Rattle.play_base.specs.View.{View}
 use Rattle.run_inputs.specs.Had.{IsAccepted}
-use Rattle.run_inputs.specs.Says.{Accepted, AreReady, Asked, Configured, Inputs, Text, TooLong, interface_of, text_read, with_interface, with_next}
+use Rattle.run_inputs.specs.Says.{Accepted, AreReady, Asked, Configured, Inputs, TooLong, interface_of, text_read, with_interface, with_next}
 
 found_here : (b : Bool) (x i : Interface) (interfaces : List Interface) (rest : Option Interface) → cond b (Some x) rest ≡ Some i
     → (rest ≡ Some i → (k : ℕ) × (slice_get interfaces k ≡ Some i)) → (k : ℕ) × (slice_get (x ∷ interfaces) k ≡ Some i)

@@ -1,13 +1,13 @@
 -- What a play left stays so where calls that follow touch none of its outputs.
-use Rattle.std.proofs.Common.{◌≡◌, ◌∙◌, ◌⊎◌, ℕ, List, [], ◌∷◌, Some, Ok, Err, IsTrue, ap, sym, refl, inl, inr}
+use Rattle.std.proofs.Common.{◌≡◌, ◌∙◌, ◌⊎◌, ℕ, List, [], Some, Ok, Err, IsTrue, sym, refl, inl, inr}
 use Rattle.std.specs.declared.result.Result.{Result}
 use Rattle.altq_model.specs.History.{LabelledEvent}
 use Rattle.capture_model.specs.Capture.{Record}
 use Rattle.command_form.proofs.FirstLaws.{was_there}
 use Rattle.file_plans.specs.End.{Untouched}
-use Rattle.file_plans.specs.Came.{AreOf, CameAlong, IsAmong}
+use Rattle.file_plans.specs.Came.{CameAlong}
 use Rattle.file_plans.specs.Plan.{HasPart, Place, number_of}
-use Rattle.file_plans.proofs.CameLaws.{came_works, none_some, same_part}
+use Rattle.file_plans.proofs.CameLaws.{came_works, none_some}
 use Rattle.file_plans.proofs.EndLaws.{came_some}
 use Rattle.interface_play.specs.declared.play.Play.{Play}
 use Rattle.interface_play.specs.Ended.{HasEnded, IsBehind}
@@ -15,6 +15,7 @@ use Rattle.interface_play.specs.Fronts.{Fronts, HasFronts, HasStatsFront, HeadsF
 use Rattle.interface_play.specs.Played.{IsDone}
 use Rattle.interface_play.specs.Source.{Places, Source, outputs_at, places_in}
 use Rattle.interface_play.proofs.FrontLaws.{fronts_none}
+use Rattle.interface_play.proofs.NewLemmas.{part_of}
 use Rattle.play_base.specs.View.{View, Everything, Keeps}
 use Rattle.play_base.proofs.ViewLaws.{keeps_fewer, keeps_refl, rose_before}
 use Rattle.play_core.specs.declared.totals.Totals.{Totals}
@@ -148,19 +149,12 @@ pub unbegun_fronts : (u v : View) (p : Places) (seed : ℕ) (s : Source) → All
 unbegun_fronts u v p seed s k =
     fronts_none u v p seed s (k.departures.none, k.departures.bytes) (k.fates.none, k.fates.bytes) (k.stats.none, k.stats.bytes)
 
-among_part : (a b : View) (es : List Place) (fs : List ℕ) (f p : ℕ) → AreOf a b es fs → IsAmong f fs → b.part f ≡ Some p → HasPart es p
-among_part a b [] [] f p x h k = absurd h
-among_part a b [] (g ∷ gs) f p x h k = absurd x
-among_part a b (e ∷ es) [] f p x h k = absurd h
-among_part a b (e ∷ es) (g ∷ gs) f p x (inl h) k = inl (same_part p (number_of e) (sym k ∙ ap b.part h ∙ x.0.part))
-among_part a b (e ∷ es) (g ∷ gs) f p x (inr h) k = inr (among_part a b es gs f p x.1 h k)
-
 -- a play that did not begin
 module _ {u a : View} {places : List Place} {files : List ℕ} {p : Play} (b : IsBehind u a places files p) where
   behind_stays : IsTrue u.tells → AllStay u a (places_in p)
   behind_stays t =
       all_stay b.came.keeps (places_in p)
-      (λ e m f fresh k. b.parts e m (among_part u a places files f (number_of e) b.came.are (b.came.only f (number_of e) fresh k) k)) (b.departures t)
+      (λ e m f fresh k. b.parts e m (part_of u a places files f (number_of e) b.came.are (b.came.only f (number_of e) fresh k) k)) (b.departures t)
       (b.fates t) (b.stats t)
 
   pub unbegun_ends : {stood : List LabelledEvent → Type 0} {kept : List KeptFate → Type 0} → HasEnded stood kept u a a places files p (Err fault.NoMemory)
